@@ -1,0 +1,6 @@
+pub mod Bytes
+pub mod Varint
+pub mod Payload
+pub mod Signed
+pub mod Meaning
+pub mod Residue
