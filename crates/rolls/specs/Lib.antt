@@ -1,0 +1,3 @@
+pub mod Quorum
+pub mod Bitmap
+pub mod Enrolled

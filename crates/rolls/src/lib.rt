@@ -1,0 +1,3 @@
+// stub
+mod faults;
+pub use faults::Faults;

@@ -1,0 +1,5 @@
+pub mod Results
+pub mod Subjects
+pub mod Namespaces
+pub mod Judging
+pub mod Meaning
