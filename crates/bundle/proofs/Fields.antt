@@ -2,13 +2,14 @@
 use mathlib.Core.Path.{_≡_, refl, sym, ap, _∙_}
 use mathlib.Core.Bool.{Bool, true, false, cond}
 use mathlib.Core.List.{List, [], _∷_, _++_, map}
-use Prim.Native.Nat.{ℕ, zero, suc, _+_, _-_, _*_, _<_, _≤_}
+use mathlib.Core.Logic.{⊎-elim}
+use Prim.Native.Nat.{ℕ, zero, suc, _+_, _-_, _*_, _<_, _≤_, min}
 use native.Mathlib.Omega.{arith}
 use native.Mathlib.Nat.{zero-add, add-zero}
 use lib.Dec.{eqb, ltb}
 use lib.ListN.{length, getD, take, drop}
-use Rattle.std.proofs.shelf.Lists.{drop-more, drop-drop, length-drop, take-more, length-take-le}
-use Rattle.std.proofs.shelf.Tests.{lt-ltb, le-ltb}
+use Rattle.std.proofs.shelf.Lists.{drop-more, drop-drop, length-drop, take-more, length-take-le, take-all, drop-all}
+use Rattle.std.proofs.shelf.Tests.{lt-ltb, le-ltb, cases-lt}
 use Rattle.std.specs.declared.result.Result.{Result}
 use Rattle.std.specs.declared.result.Result.the-variants.{Ok, Err}
 use Rattle.std.specs.shelf.Digits.{number}
@@ -84,3 +85,22 @@ entry-whole bs at m c e q h k r j =
     let n = part-length bs c j in
     let a = h .0 in let b = j .0 in
     (opened bs at m e q h ∙ ap (closing (part bs m) (m .end)) k ∙ ap (λ (z : ℕ). Ok (record { message = part bs m; place = z; certificate = part bs c })) (sym r), omega arith)
+
+-- a span cut off at the end of the bytes
+pub clipped : (bs : List ℕ) (a b a′ b′ : ℕ) → a′ ≡ min a (length bs) → b′ ≡ min b (length bs) → a′ < b′ → take (b′ - a′) (drop a′ bs) ≡ take (b - a) (drop a bs)
+clipped bs a b a′ b′ p q h =
+    let s : a′ ≡ a = omega arith in
+    let l = length-drop a bs in
+    ap (λ z. take (b′ - z) (drop z bs)) s
+    ∙ ⊎-elim (λ k. let e : b′ ≡ b = omega arith in ap (λ z. take (z - a) (drop a bs)) e)
+        (λ k. take-all (b′ - a) (drop a bs) (omega arith) ∙ sym (take-all (b - a) (drop a bs) (omega arith)))
+        (cases-lt b (length bs))
+
+pub clipped-none : (bs : List ℕ) (a b a′ b′ : ℕ) → a′ ≡ min a (length bs) → b′ ≡ min b (length bs) → b′ ≤ a′ → [] ≡ take (b - a) (drop a bs)
+clipped-none bs a b a′ b′ p q h =
+    ⊎-elim (λ k. let e : b - a ≡ 0 = omega arith in sym (ap (λ z. take z (drop a bs)) e))
+      (λ k. none (b - a) ∙ sym (ap (take (b - a)) (drop-all a bs k))) (cases-lt a (length bs))
+  where
+    none : (n : ℕ) → _≡_ {A = List ℕ} [] (take n [])
+    none zero = refl
+    none (suc n) = refl

@@ -2,11 +2,11 @@
 use mathlib.Core.Path.{_≡_, refl, sym, ap, _∙_}
 use mathlib.Core.Bool.{Bool, true, false, cond}
 use mathlib.Core.List.{List, [], _∷_, _++_, map}
-use Prim.Native.Nat.{ℕ, zero, suc, _+_, _-_, _*_, _<_, _≤_}
+use Prim.Native.Nat.{ℕ, zero, suc, _+_, _-_, _*_, _<_, _≤_, min}
 use native.Mathlib.Omega.{arith}
 use lib.Dec.{eqb, ltb}
 use lib.ListN.{length, getD, take, drop, set}
-use Rattle.std.proofs.shelf.Lists.{drop-drop, length-drop, append-assoc, append-nil, take-more-set, map-push}
+use Rattle.std.proofs.shelf.Lists.{drop-drop, length-drop, length-map, length-take, getD-map, getD-take, append-assoc, append-nil, take-more-set, map-push}
 use Rattle.std.proofs.shelf.Tests.{lt-ltb, le-ltb, eq-eqb, ne-eqb}
 use Rattle.std.specs.declared.result.Result.{Result}
 use Rattle.std.specs.declared.result.Result.the-variants.{Ok, Err}
@@ -16,7 +16,7 @@ use Rattle.refusals.specs.declared.fault.FaultKind.the-variants.{EndOfBuffer, I
 use Rattle.schemes.specs.Results.{mapOk}
 use Rattle.bundle.specs.declared.layout.Spans.{Spans}
 use Rattle.bundle.specs.Layout.{bundle, fault, prefix, entry, entries, following, size, Raw}
-use Rattle.bundle.specs.Places.{raw, raws}
+use Rattle.bundle.specs.Places.{raw, raws, blank}
 
 all-ok : {X E : Type 0} (r : Result (List X) E) → mapOk (λ rs. [] ++ rs) r ≡ r
 all-ok (Ok rs) = refl
@@ -91,3 +91,12 @@ bundle-large bs h k = rw (le-ltb (length bs) 2 h, lt-ltb max-certificates (prefi
 pub bundle-entries : (bs : List ℕ) → 2 ≤ length bs → prefix bs ≤ max-certificates → bundle bs ≡ entries (prefix bs) 2 (drop 2 bs)
 unfolding bundle
 bundle-entries bs h k = rw (le-ltb (length bs) 2 h, le-ltb max-certificates (prefix bs) k) refl
+
+pub raws-length : (bs : List ℕ) (n : ℕ) (spans : List Spans) → length (raws bs n spans) ≡ min n (length spans)
+raws-length bs n spans = length-map (take n spans) (raw bs) ∙ length-take n spans
+
+pub raws-at : (bs : List ℕ) (n i : ℕ) (spans : List Spans) (d : Raw) → i < length (raws bs n spans) → getD (raws bs n spans) i d ≡ raw bs (getD spans i blank)
+raws-at bs n i spans d h =
+    let l = raws-length bs n spans in
+    let k = length-map (take n spans) (raw bs) in
+    getD-map (raw bs) (take n spans) i blank d (omega arith) ∙ ap (raw bs) (getD-take n spans i blank (omega arith))

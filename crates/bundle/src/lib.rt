@@ -1,5 +1,14 @@
 // Bundles of certificates: reading, judging, and the text of verdicts.
+mod entries;
+mod held;
+mod judging;
 mod layout;
 mod reader;
+mod verdict;
 
+pub use entries::BundleEntries;
+pub use entries::BundleEntriesReader;
+pub use held::RawEntry;
+pub use judging::judge;
 pub use layout::Bundle;
+pub use verdict::Verdict;

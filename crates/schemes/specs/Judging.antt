@@ -44,3 +44,8 @@ pub record Seen : Type 0 where
 abbrev pub At : List Seen → ℕ → Option Seen → Type 0
 At es i None = length es ≤ i
 At es i (Some e) = (i < length es) × ((d : Seen) → getD es i d ≡ e)
+
+-- the message there
+abbrev pub MessageAt : List Seen → ℕ → Option (List ℕ) → Type 0
+MessageAt es i None = length es ≤ i
+MessageAt es i (Some m) = (i < length es) × ((d : Seen) → getD es i d .message ≡ m)

@@ -3,7 +3,7 @@ ghost use mathlib.Core.Path.{_≡_};
 ghost use mathlib.Core.List.{List};
 ghost use Prim.Native.Nat.{ℕ};
 ghost use lib.ListN.{length};
-ghost use Rattle.schemes.specs.Judging.{Judging, Parts, Seen, At, verified};
+ghost use Rattle.schemes.specs.Judging.{Judging, Parts, Seen, At, MessageAt, verified};
 ghost use Rattle.schemes.specs.Results.{mapOk};
 ghost use Rattle.std.specs.Options.{mapped};
 use crate::namespace::Namespace;
@@ -47,6 +47,9 @@ pub trait Entries {
 
     fn len(&self) -> usize
         ensures { λ r. ⌜ r ≡ length (entries (now (self .entry))) ⌝ };
+
+    fn message(&self, place: usize) -> Option<&[u8]>
+        ensures { λ r. ⌜ MessageAt (entries (now (self .entry))) place (mapped now r) ⌝ };
 
     fn entry(&self, place: usize) -> Option<Entry<'_, Self::Certificate>>
         ensures { λ r. ⌜ At (entries (now (self .entry))) place (mapped (λ e. record { message = now (e .message); certificate = mapOk (Certificate·Certificate .parts) (e .certificate) }) r) ⌝ };
