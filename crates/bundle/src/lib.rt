@@ -4,6 +4,7 @@ mod held;
 mod judging;
 mod layout;
 mod reader;
+mod text;
 mod verdict;
 
 pub use entries::BundleEntries;
@@ -11,4 +12,8 @@ pub use entries::BundleEntriesReader;
 pub use held::RawEntry;
 pub use judging::judge;
 pub use layout::Bundle;
+pub use text::Line;
+pub use text::LineDisplay;
+pub use text::RefusedLine;
+pub use text::RefusedLineDisplay;
 pub use verdict::Verdict;
