@@ -123,3 +123,61 @@ bundle-limits j bs rs h =
     let e = entries-long j (prefix bs) 2 (drop 2 bs) rs (o .2) in
     let k = o .1 in let l = e .0 in
     (omega arith, e .1)
+
+-- every byte is one
+abbrev pub Bytes : List ℕ → Type 0
+Bytes bs = (i : ℕ) → getD bs i 0 < 256
+
+bytes-drop : (n : ℕ) (bs : List ℕ) → Bytes bs → Bytes (drop n bs)
+bytes-drop n bs h i = let e = getD-drop n bs i 0 in let k = h (n + i) in omega arith
+
+pair : (a b : ℕ) → a < 256 → b < 256 → big-endian 2 (a * 256 + b) ≡ a ∷ b ∷ []
+pair a b h k =
+    let p : (a * 256 + b) / 256 % 256 ≡ a = omega arith in
+    let q : (a * 256 + b) / 1 % 256 ≡ b = ap (λ n. n % 256) (div-one (a * 256 + b)) ∙ omega arith in
+    λ i. p i ∷ q i ∷ []
+
+-- two bytes are the writing of their number
+prefix-written : (bs : List ℕ) → 2 ≤ length bs → Bytes bs → bs ≡ big-endian 2 (prefix bs) ++ drop 2 bs
+prefix-written [] h b = absurd (omega arith)
+prefix-written (x ∷ []) h b = absurd (omega arith)
+prefix-written (x ∷ y ∷ bs) h b =
+    let p : prefix (x ∷ y ∷ bs) ≡ x * 256 + y = ap (λ z. z * 256 + y) (zero-add x) in
+    ap (λ z. z ++ bs) (sym (pair x y (b 0) (b 1)) ∙ ap (big-endian 2) (sym p))
+
+found-written : (limit : ℕ) (bs m : List ℕ) → Found limit bs m → Bytes bs → bs ≡ field-written m ++ drop (2 + length m) bs
+found-written limit bs m f b =
+    prefix-written bs (f .two) b ∙ ap (λ n. big-endian 2 n ++ drop 2 bs) (f .same)
+    ∙ ap (λ z. big-endian 2 (length m) ++ z) (sym (take-append-drop (length m) (drop 2 bs)) ∙ (λ i. sym (f .is) i ++ drop-drop (length m) 2 bs i))
+    ∙ sym (append-assoc (big-endian 2 (length m)) m (drop (2 + length m) bs))
+
+empty : (bs : List ℕ) → length bs ≡ 0 → bs ≡ []
+empty [] h = refl
+empty (b ∷ bs) h = absurd (omega arith)
+
+entries-back : (k at : ℕ) (bs : List ℕ) (rs : List Raw) → entries k at bs ≡ Ok rs → Bytes bs → bs ≡ entries-written rs
+entries-back zero at bs rs h b = let n = none-left at bs rs h in empty bs (n .1) ∙ ap entries-written (sym (n .0))
+entries-back (suc k) at bs rs h b =
+    let s = split k at bs rs h in
+    let m = s .head .message in
+    let c = s .head .certificate in
+    let rest = drop (2 + length m) bs in
+    let d : drop (2 + length c) rest ≡ drop (size (s .head)) bs = drop-drop (2 + length c) (2 + length m) bs in
+    let t = entries-back k (at + size (s .head)) (drop (size (s .head)) bs) (s .tail) (s .rest) (bytes-drop (size (s .head)) bs b) in
+    found-written max-message bs m (s .first .message) b
+    ∙ ap (λ z. field-written m ++ z) (found-written max-prefix rest c (s .first .certificate) (bytes-drop (2 + length m) bs b) ∙ ap (λ z. field-written c ++ z) (d ∙ t))
+    ∙ ap entries-written (sym (s .joined))
+
+-- a bundle without faults is the writing of its entries
+pub bundle-back : (bs : List ℕ) (rs : List Raw) → bundle bs ≡ Ok rs → Bytes bs → bs ≡ bundle-written rs
+bundle-back bs rs h b =
+    let o = opened bs rs h in
+    let l = entries-count (prefix bs) 2 (drop 2 bs) rs (o .2) in
+    prefix-written bs (o .0) b
+    ∙ (λ i. big-endian 2 (sym l i) ++ entries-back (prefix bs) 2 (drop 2 bs) rs (o .2) (bytes-drop 2 bs b) i)
+  where
+    entries-count : (k at : ℕ) (bs : List ℕ) (rs : List Raw) → entries k at bs ≡ Ok rs → length rs ≡ k
+    entries-count zero at bs rs h = ap length (none-left at bs rs h .0)
+    entries-count (suc k) at bs rs h =
+        let s = split k at bs rs h in
+        ap length (s .joined) ∙ ap suc (entries-count k (at + size (s .head)) (drop (size (s .head)) bs) (s .tail) (s .rest))
