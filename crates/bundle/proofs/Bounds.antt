@@ -7,18 +7,22 @@ use native.Mathlib.Omega.{arith}
 use native.Mathlib.Nat.{div-one, zero-add}
 use lib.Dec.{eqb, ltb}
 use lib.ListN.{length, getD, take, drop}
-use Rattle.std.proofs.shelf.Lists.{drop-more, drop-all, drop-drop, length-drop, length-take-le, append-assoc, take-append-drop, getD-drop}
+use Rattle.std.proofs.shelf.Lists.{drop-more, drop-all, drop-drop, length-drop, length-take-le, append-assoc, take-append-drop, getD-drop, length-map}
 use Rattle.std.proofs.shelf.Tests.{le-ltb, ltb-false, or-from, eqb-true}
 use Rattle.std.specs.declared.result.Result.{Result}
 use Rattle.std.specs.declared.result.Result.the-variants.{Ok, Err}
-use Rattle.refusals.specs.Limits.{max-message, max-certificates}
+use Rattle.refusals.specs.Limits.{max-message, max-certificates, max-input}
 use Rattle.refusals.specs.declared.fault.BundleFault.{BundleFault}
 use Rattle.refusals.specs.declared.fault.FaultKind.the-variants.{EndOfBuffer, InvalidLength, ExtraData}
 use Rattle.schemes.specs.Judging.{Judging, Seen}
 use Rattle.schemes.specs.Results.{mapOk}
 use Rattle.keys.specs.Bytes.{big-endian}
 use Rattle.bundle.specs.Layout.{bundle, field, fault, prefix, opening, closing, entry, entries, following, size, max-prefix, Raw, field-written, entries-written, bundle-written}
-use Rattle.bundle.specs.Verdicts.{seen, some-long}
+use Rattle.std.specs.Results.{isOk}
+use Rattle.refusals.specs.declared.refusal.Refusal.{Refusal}
+use Rattle.refusals.specs.declared.refusal.Refusal.the-variants.{SmallBuffer}
+use Rattle.bundle.specs.declared.verdict.Verdict.{Verdict}
+use Rattle.bundle.specs.Verdicts.{seen, some-long, verdict, counted, Judged, answered, admitted, listed, Concluded}
 
 never : {A : Type 0} → _≡_ {A = ℕ} 0 1 → A
 never z = absurd (omega arith)
@@ -181,3 +185,23 @@ bundle-back bs rs h b =
     entries-count (suc k) at bs rs h =
         let s = split k at bs rs h in
         ap length (s .joined) ∙ ap suc (entries-count k (at + size (s .head)) (drop (size (s .head)) bs) (s .tail) (s .rest))
+
+-- judging the entries of a bundle that was read is judging the input
+pub concluded : (j : Judging) (input : List ℕ) (rs : List Raw) (before after : List Verdict) (r : Result ℕ Refusal)
+    → length input ≤ max-input → bundle input ≡ Ok rs → Judged j (map (seen j) rs) before after r → Concluded j input before after r
+concluded j input rs before after r h e d =
+    let es = map (seen j) rs in
+    let room = length before in
+    let b = bundle-limits j input rs e in
+    let l : length es ≡ length rs = length-map rs (seen j) in
+    let a : admitted input ≡ Ok rs = ap (λ t. cond t (Err (fault InvalidLength max-input)) (bundle input)) (le-ltb max-input (length input) h) ∙ e in
+    let m : ltb max-certificates (length es) ≡ false = le-ltb max-certificates (length es) (let k = b .0 in omega arith) in
+    let c : counted es room ≡ cond (ltb room (length es)) (Err (SmallBuffer (length es))) (Ok (length es)) = rw (b .1, m) refl in
+    record {
+      answer = d .answer ∙ c ∙ ap (λ n. cond (ltb room n) (Err (SmallBuffer n)) (Ok n)) l ∙ ap (λ z. answered z room) (sym a);
+      listing = d .listing ∙ ap (λ z. cond (isOk r) z before)
+        ((λ i. map-map (verdict j) (seen j) rs i ++ drop (l i) before) ∙ ap (λ z. listed j z before) (sym a)) }
+  where
+    map-map : {A B C : Type 0} (f : B → C) (g : A → B) (xs : List A) → map f (map g xs) ≡ map (λ x. f (g x)) xs
+    map-map f g [] = refl
+    map-map f g (x ∷ xs) = ap (λ z. f (g x) ∷ z) (map-map f g xs)

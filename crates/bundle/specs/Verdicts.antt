@@ -9,7 +9,7 @@ use Rattle.std.specs.Results.{isOk}
 use Rattle.std.specs.declared.result.Result.{Result}
 use Rattle.std.specs.declared.result.Result.the-variants.{Ok, Err}
 use Rattle.refusals.specs.Faults.{raised}
-use Rattle.refusals.specs.Limits.{max-message, max-certificates}
+use Rattle.refusals.specs.Limits.{max-message, max-certificates, max-input}
 use Rattle.refusals.specs.declared.fault.BundleFault.{BundleFault}
 use Rattle.refusals.specs.declared.refusal.Refusal.{Refusal}
 use Rattle.refusals.specs.declared.refusal.Refusal.the-variants.{SmallBuffer, TooMany}
@@ -17,7 +17,9 @@ use Rattle.schemes.specs.Results.{mapErr}
 use Rattle.schemes.specs.Judging.{Judging, Parts, Seen}
 use Rattle.bundle.specs.declared.verdict.Verdict.{Verdict}
 use Rattle.bundle.specs.declared.verdict.Verdict.the-variants.{Accepted, Rejected, Faulty}
-use Rattle.bundle.specs.Layout.{Raw}
+use Rattle.refusals.specs.Numbers.{refused}
+use Rattle.refusals.specs.declared.fault.FaultKind.the-variants.{InvalidLength}
+use Rattle.bundle.specs.Layout.{Raw, bundle, fault}
 
 -- an entry as a verifier reads it: a fault of the certificate is raised by where the certificate begins
 abbrev pub seen : Judging → Raw → Seen
@@ -46,3 +48,19 @@ counted es room =
 pub record Judged (j : Judging) (es : List Seen) (before after : List Verdict) (r : Result ℕ Refusal) : Type 0 where
   pub answer : r ≡ counted es (length before)
   pub listing : after ≡ cond (isOk r) (map (verdict j) es ++ drop (length es) before) before
+
+-- what an input gives: too long, a fault of the bundle, too little room, or as many verdicts as entries
+abbrev pub answered : Result (List Raw) BundleFault → ℕ → Result ℕ Refusal
+answered (Err f) room = Err (refused (f .kind) (f .layer) (f .place))
+answered (Ok rs) room = cond (ltb room (length rs)) (Err (SmallBuffer (length rs))) (Ok (length rs))
+
+abbrev pub admitted : List ℕ → Result (List Raw) BundleFault
+admitted input = cond (ltb max-input (length input)) (Err (fault InvalidLength max-input)) (bundle input)
+
+abbrev pub listed : Judging → Result (List Raw) BundleFault → List Verdict → List Verdict
+listed j (Err f) before = before
+listed j (Ok rs) before = map (λ r. verdict j (seen j r)) rs ++ drop (length rs) before
+
+pub record Concluded (j : Judging) (input : List ℕ) (before after : List Verdict) (r : Result ℕ Refusal) : Type 0 where
+  pub answer : r ≡ answered (admitted input) (length before)
+  pub listing : after ≡ cond (isOk r) (listed j (admitted input) before) before

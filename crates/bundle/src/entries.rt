@@ -23,6 +23,14 @@ pub struct BundleEntries<'a, V> {
     verifier: &'a V,
 }
 
+impl<'a, V> BundleEntries<'a, V> {
+    pub fn new(bundle: &'a Bundle<'a>, verifier: &'a V) -> BundleEntries<'a, V>
+        ensures { λ r. ⌜ (at (r .bundle) ≡ now (bundle .entry)) × (at (r .verifier) ≡ now (verifier .entry)) ⌝ }
+    {
+        BundleEntries { bundle, verifier }
+    }
+}
+
 // Reads a certificate that begins at a place.
 fn placed<V: Verifier>(verifier: &V, bytes: &[u8], at: usize) -> Result<V::Certificate, Placed>
     ensures { λ r. ⌜ mapOk (Certificate·Certificate .parts) r ≡ mapErr (λ f. record { fault = f; at = at }) (V·Verifier .judging (now (verifier .entry)) .reads (V·Verifier .judging (now (verifier .entry)) .members) (now (bytes .entry))) ⌝ }

@@ -1,6 +1,7 @@
 // Bundles of certificates: reading, judging, and the text of verdicts.
 mod entries;
 mod held;
+mod input;
 mod judging;
 mod layout;
 mod reader;
@@ -10,6 +11,8 @@ mod verdict;
 pub use entries::BundleEntries;
 pub use entries::BundleEntriesReader;
 pub use held::RawEntry;
+pub use input::admit;
+pub use input::judge_input;
 pub use judging::judge;
 pub use layout::Bundle;
 pub use text::Line;

@@ -4,9 +4,10 @@ ghost use mathlib.Core.List.{List, map};
 ghost use Prim.Native.Nat.{ℕ, _+_, _<_, _≤_};
 ghost use lib.ListN.{length, getD, take, drop};
 ghost use Rattle.std.specs.Results.{Cases};
+ghost use Rattle.std.specs.Vec.{made};
 ghost use Rattle.std.specs.declared.result.Result.the-variants.{Ok, Err};
 ghost use Rattle.schemes.specs.Results.{mapOk};
-ghost use Rattle.bundle.specs.Layout.{bundle, field as field-of, entry as entry-of, max-prefix, size, Raw};
+ghost use Rattle.bundle.specs.Layout.{bundle, bundle-written, field as field-of, entry as entry-of, max-prefix, size, Raw};
 ghost use Rattle.bundle.specs.Places.{part, raw, held-by, Inside, Within};
 ghost use Rattle.refusals.specs.Limits.{max-message};
 use crate::layout::Bundle;
@@ -61,7 +62,8 @@ fn entry(bytes: &[u8], at: usize) -> Result<Spans, BundleFault>
 impl<'a> Bundle<'a> {
     /// Finds a bundle's own faults; those of its certificates stay with their entries.
     pub fn read(bytes: &'a [u8]) -> Result<Bundle<'a>, BundleFault>
-        ensures { λ r. ⌜ mapOk held-by r ≡ bundle (now (bytes .entry)) ⌝ }
+        ensures entries { λ r. ⌜ mapOk held-by r ≡ bundle (now (bytes .entry)) ⌝ }
+        ensures written { λ r. ⌜ made r (λ b. now (bytes .entry) ≡ bundle-written (held-by b)) ⌝ }
     {
         if bytes.len() < 2 {
             return Err(fault(FaultKind::EndOfBuffer, 0));
