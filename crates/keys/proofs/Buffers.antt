@@ -1,18 +1,17 @@
 -- Bytes at the front of a buffer. Assumes nothing.
-use mathlib.Core.Path.{_≡_, refl, sym, ap, _∙_}
-use mathlib.Core.Bool.{Bool, true, false, cond}
-use mathlib.Core.List.{List, [], _∷_, _++_}
+use mathlib.Core.Path.{_≡_, sym, ap, _∙_}
+use mathlib.Core.Bool.{true, cond}
+use mathlib.Core.List.{List, [], _++_}
 use Prim.Native.Nat.{ℕ, _+_, _≤_, _<_}
 use native.Mathlib.Omega.{arith}
-use native.Mathlib.Nat.{zero-add}
 use lib.Dec.{leb}
 use lib.ListN.{length, take, drop}
-use Rattle.std.proofs.shelf.Lists.{take-append-le, take-all, length-take-le, append-assoc, length-append, length-drop}
+use Rattle.std.proofs.shelf.Lists.{append-assoc, length-append, length-take-le, take-append-le, take-all, take-at, drop-at, drop-drop, length-drop}
 use lib.Seq.{take-append-add}
-use Rattle.std.proofs.shelf.Tests.{le-leb}
 use Rattle.std.specs.declared.option.Option.{Option}
 use Rattle.std.specs.declared.option.Option.the-variants.{None, Some}
 use Rattle.std.specs.Options.{Cases}
+use Rattle.std.proofs.shelf.Tests.{le-leb}
 use Rattle.keys.specs.Bytes.{overlaid}
 
 -- what was written at the front is read there again
@@ -26,6 +25,21 @@ overlaid-within buffer bytes copy n e h q =
     let a : leb n 64 ≡ true = le-leb n 64 h in
     let b : leb (length bytes) 64 ≡ true = le-leb (length bytes) 64 (omega arith) in
     rw (a, b, l, q) (overlaid-front buffer bytes)
+
+-- bytes written behind others are one writing of both
+pub overlaid-more : (buffer xs ys : List ℕ) (at : ℕ) → at ≤ length buffer
+    → overlaid (overlaid buffer at xs) (at + length xs) ys ≡ overlaid buffer at (xs ++ ys)
+overlaid-more buffer xs ys at h =
+    let n : length (take at buffer ++ xs) ≡ at + length xs = length-append (take at buffer) xs ∙ ap (λ z. z + length xs) (length-take-le at buffer h) in
+    let e : overlaid buffer at xs ≡ (take at buffer ++ xs) ++ drop (at + length xs) buffer = sym (append-assoc (take at buffer) xs (drop (at + length xs) buffer)) in
+    let t = take-at (take at buffer ++ xs) (drop (at + length xs) buffer) (at + length xs) n in
+    let d = drop-at (take at buffer ++ xs) (drop (at + length xs) buffer) (at + length xs) n in
+    let f = drop-drop (length ys) (at + length xs) ((take at buffer ++ xs) ++ drop (at + length xs) buffer) in
+    let g = drop-drop (length ys) (at + length xs) buffer in
+    let k : drop (at + length xs + length ys) buffer ≡ drop (at + length (xs ++ ys)) buffer = ap (λ z. drop z buffer) (omega (arith, length-append xs ys)) in
+    let a = append-assoc (take at buffer) xs (ys ++ drop (at + length (xs ++ ys)) buffer) in
+    let b = append-assoc xs ys (drop (at + length (xs ++ ys)) buffer) in
+    cc
 
 -- up to its end, what was written stands behind what was there
 pub overlaid-take : (buffer bytes : List ℕ) (at : ℕ) → at ≤ length buffer → take (at + length bytes) (overlaid buffer at bytes) ≡ take at buffer ++ bytes

@@ -4,3 +4,5 @@ pub mod Payload
 pub mod Signed
 pub mod Meaning
 pub mod Residue
+pub mod ResidueLaws
+pub mod Batch

@@ -33,3 +33,7 @@ pub record Entry : Type 0 where
 abbrev pub all-good : KeyMeaning → List Entry → Bool
 all-good m [] = true
 all-good m (e ∷ es) = m .good (e .key) (e .payload) (e .signature) && all-good m es
+
+-- what stands past the end of a batch
+abbrev pub no-entry : Entry
+no-entry = record { key = []; payload = []; signature = [] }

@@ -1,6 +1,6 @@
 // Writing into a lent buffer.
 ghost use mathlib.Core.Path.{_≡_};
-ghost use Prim.Native.Nat.{ℕ, _+_, _<_, _≤_};
+ghost use Prim.Native.Nat.{_+_, _<_, _≤_};
 ghost use lib.ListN.{length};
 ghost use Rattle.std.specs.Options.{Cases};
 ghost use Rattle.keys.specs.Bytes.{overlaid};
@@ -12,7 +12,14 @@ pub fn put(out: &mut [u8], at: usize, bytes: &[u8]) -> Option<usize>
     if at > out.len() || bytes.len() > out.len() - at {
         return None;
     }
-    let end = at + bytes.len();
-    out[at..end].copy_from_slice(bytes);
-    Some(end)
+    overlay(out, at, bytes);
+    Some(at + bytes.len())
+}
+
+// Writes bytes at a place that has room for them.
+pub(crate) fn overlay(out: &mut [u8], at: usize, bytes: &[u8])
+    requires { ⌜ at + length (now bytes) ≤ length (now out) ⌝ }
+    ensures { λ _. ⌜ now (out .exit) ≡ overlaid (now (out .entry)) at (now (bytes .entry)) ⌝ }
+{
+    out[at..at + bytes.len()].copy_from_slice(bytes);
 }

@@ -18,14 +18,21 @@ impl Signature {
         let mut copy = [0u8; MAX_SIGNATURE];
         match put(&mut copy, 0, bytes) {
             Some(len) => Signature { len, bytes: copy },
-            None => Signature { len: 0, bytes: copy },
+            None => Signature {
+                len: 0,
+                bytes: copy,
+            },
         }
     }
 
     pub fn as_slice(&self) -> &[u8]
         ensures { λ r. ⌜ now r ≡ signed (now (self .entry)) ⌝ }
     {
-        let len = if self.len <= MAX_SIGNATURE { self.len } else { 0 };
+        let len = if self.len <= MAX_SIGNATURE {
+            self.len
+        } else {
+            0
+        };
         &self.bytes[0..len]
     }
 }

@@ -29,4 +29,4 @@ pub data Refused (is-key : List ℕ → Bool) (keys : List (List ℕ)) (index : 
   none : length keys ≡ 0 → index ≡ 0 → Refused is-key keys index
   many : max-members < length keys → index ≡ max-members → Refused is-key keys index
   first-bad : 1 ≤ length keys → length keys ≤ max-members → index < length keys
-    → ((i : ℕ) → i < index → fine is-key keys i ≡ true) → fine is-key keys index ≡ false → Refused is-key keys index
+      → ((i : ℕ) → i < index → fine is-key keys i ≡ true) → fine is-key keys index ≡ false → Refused is-key keys index

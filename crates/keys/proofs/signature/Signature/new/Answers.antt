@@ -1,5 +1,4 @@
 use lib.ListN.{replicate}
-use native.Mathlib.Omega.{arith}
 use Prim.Native.Nat.{ℕ}
 use Rattle.keys.proofs.Buffers.{overlaid-within}
 use Rattle.keys.proofs.signature.Signature.new.Needs as need
