@@ -15,7 +15,7 @@ use Rattle.refusals.specs.Limits.{max-message, max-certificates, max-input}
 use Rattle.refusals.specs.declared.fault.BundleFault.{BundleFault}
 use Rattle.refusals.specs.declared.fault.FaultKind.the-variants.{EndOfBuffer, InvalidLength, ExtraData}
 use Rattle.schemes.specs.Judging.{Judging, Seen}
-use Rattle.schemes.specs.Results.{mapOk}
+use Rattle.refusals.specs.Results.{mapOk}
 use Rattle.keys.specs.Bytes.{big-endian}
 use Rattle.bundle.specs.Layout.{bundle, field, fault, prefix, opening, closing, entry, entries, following, size, max-prefix, Raw, field-written, entries-written, bundle-written}
 use Rattle.std.specs.Results.{isOk}

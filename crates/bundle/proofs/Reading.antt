@@ -6,25 +6,18 @@ use Prim.Native.Nat.{ℕ, zero, suc, _+_, _-_, _*_, _<_, _≤_, min}
 use native.Mathlib.Omega.{arith}
 use lib.Dec.{eqb, ltb}
 use lib.ListN.{length, getD, take, drop, set}
-use Rattle.std.proofs.shelf.Lists.{drop-drop, length-drop, length-map, length-take, getD-map, getD-take, append-assoc, append-nil, take-more-set, map-push}
+use Rattle.std.proofs.shelf.Lists.{drop-drop, length-drop, length-map, length-take, getD-map, getD-take, append-nil, take-more-set, map-push}
 use Rattle.std.proofs.shelf.Tests.{lt-ltb, le-ltb, eq-eqb, ne-eqb}
 use Rattle.std.specs.declared.result.Result.{Result}
 use Rattle.std.specs.declared.result.Result.the-variants.{Ok, Err}
+use Rattle.refusals.proofs.Prepending.{all-ok, more-ok}
 use Rattle.refusals.specs.Limits.{max-message, max-certificates}
 use Rattle.refusals.specs.declared.fault.BundleFault.{BundleFault}
 use Rattle.refusals.specs.declared.fault.FaultKind.the-variants.{EndOfBuffer, InvalidLength, ExtraData}
-use Rattle.schemes.specs.Results.{mapOk}
+use Rattle.refusals.specs.Results.{mapOk}
 use Rattle.bundle.specs.declared.layout.Spans.{Spans}
 use Rattle.bundle.specs.Layout.{bundle, fault, prefix, entry, entries, following, size, Raw}
 use Rattle.bundle.specs.Places.{raw, raws, blank}
-
-all-ok : {X E : Type 0} (r : Result (List X) E) → mapOk (λ rs. [] ++ rs) r ≡ r
-all-ok (Ok rs) = refl
-all-ok (Err e) = refl
-
-more-ok : {X E : Type 0} (xs : List X) (x : X) (r : Result (List X) E) → mapOk (λ rs. xs ++ rs) (mapOk (λ rs. x ∷ rs) r) ≡ mapOk (λ rs. (xs ++ x ∷ []) ++ rs) r
-more-ok xs x (Ok rs) = ap Ok (sym (append-assoc xs (x ∷ []) rs))
-more-ok xs x (Err e) = refl
 
 -- what is read so far, before what the rest gives, is what the whole gives
 abbrev pub Ongoing : List ℕ → ℕ → ℕ → ℕ → List Spans → Type 0

@@ -14,7 +14,7 @@ use Rattle.refusals.specs.declared.fault.FaultKind.{FaultKind}
 use Rattle.refusals.specs.declared.fault.FaultKind.the-variants.{EndOfBuffer, InvalidLength, ExtraData}
 use Rattle.refusals.specs.declared.fault.Layer.the-variants as layers
 use Rattle.keys.specs.Bytes.{big-endian}
-use Rattle.schemes.specs.Results.{mapOk}
+use Rattle.refusals.specs.Results.{mapOk}
 
 -- an entry: a message, a certificate's bytes, and the place where these begin
 pub record Raw : Type 0 where

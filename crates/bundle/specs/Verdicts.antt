@@ -13,7 +13,7 @@ use Rattle.refusals.specs.Limits.{max-message, max-certificates, max-input}
 use Rattle.refusals.specs.declared.fault.BundleFault.{BundleFault}
 use Rattle.refusals.specs.declared.refusal.Refusal.{Refusal}
 use Rattle.refusals.specs.declared.refusal.Refusal.the-variants.{SmallBuffer, TooMany}
-use Rattle.schemes.specs.Results.{mapErr}
+use Rattle.refusals.specs.Results.{mapErr}
 use Rattle.schemes.specs.Judging.{Judging, Parts, Seen}
 use Rattle.bundle.specs.declared.verdict.Verdict.{Verdict}
 use Rattle.bundle.specs.declared.verdict.Verdict.the-variants.{Accepted, Rejected, Faulty}

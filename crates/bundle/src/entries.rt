@@ -4,7 +4,7 @@ ghost use mathlib.Core.List.{List, map};
 ghost use Prim.Native.Nat.{ℕ, _<_, _≤_};
 ghost use denote.Ref.{now as at};
 ghost use lib.ListN.{length};
-ghost use Rattle.schemes.specs.Results.{mapOk, mapErr};
+ghost use Rattle.refusals.specs.Results.{mapOk, mapErr};
 ghost use Rattle.refusals.specs.Faults.{raised};
 ghost use Rattle.bundle.specs.Places.{held-by};
 ghost use Rattle.bundle.specs.Verdicts.{seen};

@@ -4,7 +4,7 @@ ghost use mathlib.Core.Bool.{not};
 ghost use Prim.Native.Nat.{ℕ, _≤_};
 ghost use lib.ListN.{length};
 ghost use Rattle.refusals.specs.Limits.{max-message};
-ghost use Rattle.schemes.specs.Results.{mapOk};
+ghost use Rattle.refusals.specs.Results.{mapOk};
 ghost use Rattle.bundle.specs.Verdicts.{Judged, some-long, decided};
 use crate::verdict::Verdict;
 use refusals::MAX_CERTIFICATES;

@@ -6,7 +6,7 @@ ghost use lib.ListN.{length, getD, take, drop};
 ghost use Rattle.std.specs.Results.{Cases};
 ghost use Rattle.std.specs.Vec.{made};
 ghost use Rattle.std.specs.declared.result.Result.the-variants.{Ok, Err};
-ghost use Rattle.schemes.specs.Results.{mapOk};
+ghost use Rattle.refusals.specs.Results.{mapOk};
 ghost use Rattle.bundle.specs.Layout.{bundle, bundle-written, field as field-of, entry as entry-of, max-prefix, size, Raw};
 ghost use Rattle.bundle.specs.Places.{part, raw, held-by, Inside, Within};
 ghost use Rattle.refusals.specs.Limits.{max-message};

@@ -25,7 +25,8 @@ use Rattle.refusals.specs.declared.fault.FaultKind.the-variants.{EndOfBuffer, I
 use Rattle.refusals.specs.declared.fault.Layer.the-variants.{Certificate}
 use Rattle.keys.specs.Bytes.{big-endian, little-endian, little-number, overlaid}
 use Rattle.rolls.specs.Bitmap.{Bitmap, bitmap-size, bitmap-written, read-bits, read-bitmap}
-use Rattle.rolls.specs.Signers.{bitmap, mapOk, written-size, whole, decode-bitmap}
+use Rattle.refusals.specs.Results.{mapOk}
+use Rattle.rolls.specs.Signers.{bitmap, written-size, whole, decode-bitmap}
 use Rattle.rolls.specs.declared.signers.Signers.{Signers}
 use Rattle.std.specs.Vec.{made}
 use Rattle.rolls.proofs.Writings.{length-little-endian, length-written}

@@ -21,10 +21,6 @@ use Rattle.rolls.specs.declared.signers.Signers.{Signers}
 abbrev pub bitmap : Signers → Bitmap
 bitmap s = record { len = s .len; bits = s .bits }
 
-abbrev pub mapOk : {A B E : Type 0} → (A → B) → Result A E → Result B E
-mapOk f (Ok x) = Ok (f x)
-mapOk f (Err e) = Err e
-
 -- the bytes of a bitmap's writing
 abbrev pub written-size : Bitmap → ℕ
 written-size b = 8 + bitmap-size (b .len)

@@ -1,4 +1,3 @@
-pub mod Results
 pub mod Subjects
 pub mod Namespaces
 pub mod Judging

@@ -4,7 +4,7 @@ ghost use mathlib.Core.List.{List};
 ghost use Prim.Native.Nat.{ℕ};
 ghost use lib.ListN.{length};
 ghost use Rattle.schemes.specs.Judging.{Judging, Parts, Seen, At, MessageAt, verified};
-ghost use Rattle.schemes.specs.Results.{mapOk};
+ghost use Rattle.refusals.specs.Results.{mapOk};
 ghost use Rattle.std.specs.Options.{mapped};
 use crate::namespace::Namespace;
 use crate::subject::Subject;

@@ -1,4 +1,4 @@
--- A function on the value of an `Ok`. Assumes nothing.
+-- A function on the value of an `Ok` or of an `Err`. Assumes nothing.
 use Rattle.std.specs.declared.result.Result.{Result}
 use Rattle.std.specs.declared.result.Result.the-variants.{Ok, Err}
 

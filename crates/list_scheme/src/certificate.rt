@@ -1,0 +1,11 @@
+// A list certificate: whom it names, and their signatures by ascending member.
+use keys::Signature;
+use refusals::MAX_MEMBERS;
+use rolls::Signers;
+
+#[derive(Clone, Copy)]
+pub struct ListCertificate {
+    pub(crate) signers: Signers,
+    pub(crate) signatures: [Signature; MAX_MEMBERS],
+    pub(crate) count: usize,
+}
