@@ -41,10 +41,14 @@ finished b at end total (Ok ss) =
     (cond (ltb end total) (Err (fault ExtraData Certificate end)) (Ok (record { bitmap = b; signatures = ss })))
     (Err (fault Invalid Certificate at))
 
+-- a count that could not be read, at a place
+abbrev pub misread : VarintFault → ℕ → CertificateFault
+misread varints.EndOfBuffer at = fault EndOfBuffer Signatures at
+misread varints.Invalid at = fault Invalid Signatures at
+
 -- the count is at most the bound
 abbrev pub listed : ℕ → ℕ → Bitmap → ℕ → List ℕ → Result Varint VarintFault → Result Parts CertificateFault
-listed width bound b at bs (Err varints.EndOfBuffer) = Err (fault EndOfBuffer Signatures at)
-listed width bound b at bs (Err varints.Invalid) = Err (fault Invalid Signatures at)
+listed width bound b at bs (Err f) = Err (misread f at)
 listed width bound b at bs (Ok v) =
     cond (ltb (min bound max-members) (v .value)) (Err (fault InvalidLength Signatures at))
     (finished b at (at + v .size + v .value * width) (length bs) (signatures width (v .value) (at + v .size) (drop (at + v .size) bs)))
