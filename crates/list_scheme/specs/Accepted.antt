@@ -19,13 +19,15 @@ each-good m keys signed [] (s ∷ ss) = false
 each-good m keys signed (i ∷ is) [] = false
 each-good m keys signed (i ∷ is) (s ∷ ss) = m .good (getD keys i []) signed s && each-good m keys signed is ss
 
--- its length is that of the roll, it has as many signatures as members, these are a quorum, and each signature is good
-unfoldable pub list-accepted : KeyMeaning → List (List ℕ) → Faults → List ℕ → Said → Parts → Bool
-list-accepted m keys faults namespace t p =
+-- its length is that of the roll, it has as many signatures as members, and these are a quorum
+unfoldable pub list-fits : List (List ℕ) → Faults → Parts → Bool
+list-fits keys faults p =
     eqb (p .bitmap .len) (length keys)
-    && (eqb (length (named p)) (length (p .signatures))
-    && (leb (quorum faults (length keys)) (length (named p))
-    && each-good m keys (payload namespace (t .message)) (named p) (p .signatures)))
+    && (eqb (length (named p)) (length (p .signatures)) && leb (quorum faults (length keys)) (length (named p)))
+
+-- it fits, and each signature is good
+unfoldable pub list-accepted : KeyMeaning → List (List ℕ) → Faults → List ℕ → Said → Parts → Bool
+list-accepted m keys faults namespace t p = list-fits keys faults p && each-good m keys (payload namespace (t .message)) (named p) (p .signatures)
 
 abbrev pub list-judging : KeyMeaning → List (List ℕ) → Faults → List ℕ → Judging
 list-judging m keys faults namespace =

@@ -1,3 +1,4 @@
 pub mod Reading
 pub mod Accepted
 pub mod Certificate
+pub mod Made
