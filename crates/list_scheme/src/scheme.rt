@@ -30,6 +30,7 @@ use schemes::Namespace;
 use schemes::Subject;
 use schemes::Verifier;
 
+#[derive(Drop)]
 pub struct ListScheme<K: KeyCheck, N: Namespace> {
     roll: Roll<K>,
     faults: Faults,
