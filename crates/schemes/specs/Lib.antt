@@ -2,3 +2,4 @@ pub mod Subjects
 pub mod Namespaces
 pub mod Judging
 pub mod Meaning
+pub mod Signing

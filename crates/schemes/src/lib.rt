@@ -1,8 +1,12 @@
 // Subjects, certificates and schemes of signatures, and what they mean.
+mod attestation;
 mod certificate;
 mod namespace;
+mod scheme;
 mod subject;
 
+pub use attestation::Attestation;
+pub use attestation::Verification;
 pub use certificate::Certificate;
 pub use certificate::Entries;
 pub use certificate::Entry;
@@ -12,6 +16,7 @@ pub use namespace::EditionNamespaceKind;
 pub use namespace::Namespace;
 pub use namespace::PlainNamespace;
 pub use namespace::PlainNamespaceKind;
+pub use scheme::Scheme;
 pub use subject::Edition;
 pub use subject::EditionSubject;
 pub use subject::Message;
