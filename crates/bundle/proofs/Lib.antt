@@ -2,3 +2,4 @@ pub mod Fields
 pub mod Reading
 pub mod Looking
 pub mod Bounds
+pub mod Printing

@@ -2,3 +2,4 @@ pub mod Layout
 pub mod Places
 pub mod Verdicts
 pub mod Text
+pub mod Answer

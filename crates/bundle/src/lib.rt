@@ -1,4 +1,5 @@
 // Bundles of certificates: reading, judging, and the text of verdicts.
+mod answer;
 mod entries;
 mod held;
 mod input;
@@ -8,6 +9,8 @@ mod reader;
 mod text;
 mod verdict;
 
+pub use answer::Answer;
+pub use answer::AnswerDisplay;
 pub use entries::BundleEntries;
 pub use entries::BundleEntriesReader;
 pub use held::RawEntry;

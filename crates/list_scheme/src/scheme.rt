@@ -12,6 +12,7 @@ ghost use Rattle.schemes.specs.Judging.{named};
 ghost use mathlib.Core.Bool.{true};
 ghost use Rattle.list_scheme.specs.Certificate.{parts as parts-of};
 ghost use Rattle.list_scheme.specs.Made.{Made};
+ghost use Rattle.list_scheme.specs.Soundness.{list-sound};
 use crate::certificate::ListCertificate;
 use keys::KeyCheck;
 use keys::Signature;
@@ -95,6 +96,8 @@ pub impl<K: KeyCheck, N: Namespace> Verifier for ListScheme<K, N> as ListSchemeV
     type Certificate = ListCertificate;
 
     ghost judging = { λ s. list-judging (K·KeyCheck .meaning) (first-keys (K·KeyCheck .key) (s .roll .len) (s .roll .keys)) (s .faults) (N·Namespace .bytes (s .namespace)) };
+
+    ghost sound = { λ s. list-sound (K·KeyCheck .meaning) (K·KeyCheck .key) (s .roll .len) (s .roll .keys) (s .faults) (N·Namespace .bytes (s .namespace)) (s .roll .some) (s .roll .within) (s .roll .long) };
 
     fn members(&self) -> usize {
         self.roll.len()

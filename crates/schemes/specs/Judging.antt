@@ -12,6 +12,7 @@ use Rattle.std.specs.declared.result.Result.the-variants.{Ok, Err}
 use Rattle.refusals.specs.Limits.{max-message, max-members}
 use Rattle.refusals.specs.declared.fault.BundleFault.{BundleFault}
 use Rattle.refusals.specs.declared.fault.CertificateFault.{CertificateFault}
+use Rattle.refusals.specs.declared.fault.Layer.the-variants.{Bundle}
 use Rattle.refusals.specs.declared.refusal.Refusal.{Refusal}
 use Rattle.refusals.specs.declared.refusal.Refusal.the-variants.{TooMany}
 use Rattle.rolls.specs.Bitmap.{Bitmap, members}
@@ -30,6 +31,12 @@ pub record Judging : Type 0 where
   pub accepted : Said → Parts → Bool
   -- a certificate from its bytes, with a bound on its members
   pub reads : ℕ → List ℕ → Result Parts CertificateFault
+
+-- what every verifier owes: from 1 to 64 members, and a certificate's fault is never the bundle's
+pub record Sound (j : Judging) : Type 0 where
+  pub some : 1 ≤ j .members
+  pub few : j .members ≤ max-members
+  pub lower : (bound : ℕ) (bytes : List ℕ) (f : CertificateFault) → j .reads bound bytes ≡ Err f → f .layer ≡ Bundle → ⊥
 
 -- what verify_certificate answers
 abbrev pub verified : Judging → Said → Parts → Result Bool Refusal

@@ -3,7 +3,7 @@ ghost use mathlib.Core.Path.{_≡_};
 ghost use mathlib.Core.List.{List};
 ghost use Prim.Native.Nat.{ℕ};
 ghost use lib.ListN.{length};
-ghost use Rattle.schemes.specs.Judging.{Judging, Parts, Seen, At, MessageAt, verified};
+ghost use Rattle.schemes.specs.Judging.{Judging, Parts, Seen, Sound, At, MessageAt, verified};
 ghost use Rattle.refusals.specs.Results.{mapOk};
 ghost use Rattle.std.specs.Options.{mapped};
 use crate::namespace::Namespace;
@@ -21,6 +21,8 @@ pub trait Verifier {
     type Certificate: Certificate;
 
     ghost judging: { Self → Judging };
+
+    ghost sound: { (s : Self) → Sound (judging s) };
 
     fn members(&self) -> usize
         ensures { λ r. ⌜ r ≡ judging (now (self .entry)) .members ⌝ };

@@ -2,16 +2,15 @@
 ghost use Prim.Native.Nat.{_≤_};
 ghost use lib.ListN.{length};
 ghost use Rattle.std.specs.Vec.{made};
-use bundle::Line;
-use bundle::LineDisplay;
+use bundle::Answer;
+use bundle::AnswerDisplay;
 use bundle::RefusedLine;
 use bundle::RefusedLineDisplay;
 use bundle::Verdict;
-use bundle::judge_input;
-use refusals::MAX_CERTIFICATES;
-use refusals::MAX_INPUT;
 use keys::ResidueKeyCheck;
 use list_scheme::ListSchemeVerifier;
+use refusals::MAX_CERTIFICATES;
+use refusals::MAX_INPUT;
 use roll_w::roll_of_w;
 use schemes::Verifier;
 use std::io;
@@ -35,24 +34,16 @@ fn fill<R: Read>(reader: &mut R, buffer: &mut [u8]) -> io::Result<usize>
     Ok(len)
 }
 
-fn print_verdicts<V: Verifier>(rt: &impl Print, verifier: &V, input: &[u8]) -> io::Result<()> {
+fn print_answer<V: Verifier>(rt: &impl Print, verifier: &V, input: &[u8]) -> io::Result<()> {
     let mut verdicts = [Verdict::Rejected; MAX_CERTIFICATES];
-    match judge_input(verifier, input, &mut verdicts) {
-        Ok(count) => {
-            for (number, verdict) in verdicts.iter().take(count).enumerate() {
-                rt.println(Line { number, verdict: *verdict })?;
-            }
-            Ok(())
-        }
-        Err(refusal) => rt.println(RefusedLine { refusal }),
-    }
+    rt.print(Answer::of(verifier, input, &mut verdicts))
 }
 
 fn main(rt: LibcRuntime) -> io::Result<()> {
     let mut buffer = [0u8; ROOM];
     let len = fill(&mut rt.stdin(), &mut buffer)?;
     match roll_of_w() {
-        Ok(scheme) => print_verdicts(&rt, &scheme, &buffer[..len]),
+        Ok(scheme) => print_answer(&rt, &scheme, &buffer[..len]),
         Err(refusal) => rt.println(RefusedLine { refusal }),
     }
 }
