@@ -70,7 +70,9 @@ entered at bs r h = first (field max-message at bs) refl h
         record {
           message = found max-message at bs (r .message) (p ∙ ap Ok u);
           certificate = found max-prefix (at + 2 + length m) (drop (2 + length (r .message)) bs) (r .certificate)
-            (ap (λ (z : List ℕ). field max-prefix (at + 2 + length m) (drop (2 + length z) bs)) (sym u) ∙ q ∙ ap Ok v) }
+              (ap (λ (z : List ℕ). field max-prefix (at + 2 + length m) (drop (2 + length z) bs)) (sym u) ∙ q ∙ ap Ok v);
+        }
+
     first : (f : Result (List ℕ) BundleFault) → field max-message at bs ≡ f → opening at bs f ≡ Ok r → Entered at bs r
     first (Err e) p k = never (cc)
     first (Ok m) p k = second m (field max-prefix (at + 2 + length m) (drop (2 + length m) bs)) p refl k
@@ -89,6 +91,7 @@ split k at bs rs h = go (entry at bs) refl h
     more : (r : Raw) (f : Result (List Raw) BundleFault) → entry at bs ≡ Ok r → entries k (at + size r) (drop (size r) bs) ≡ f → mapOk (λ z. r ∷ z) f ≡ Ok rs → Split k at bs rs
     more r (Err e) p q h = never (cc)
     more r (Ok t) p q h = record { head = r; tail = t; first = entered at bs r p; rest = q; joined = cc }
+
     go : (e : Result Raw BundleFault) → entry at bs ≡ e → following e (λ r. entries k (at + size r) (drop (size r) bs)) ≡ Ok rs → Split k at bs rs
     go (Err e) p h = never (cc)
     go (Ok r) p h = more r (entries k (at + size r) (drop (size r) bs)) p refl h
@@ -104,10 +107,11 @@ entries-long : (j : Judging) (k at : ℕ) (bs : List ℕ) (rs : List Raw) → en
 entries-long j zero at bs rs h = let n = none-left at bs rs h in (ap length (n .0), ap (λ (z : List Raw). some-long (map (seen j) z)) (n .0))
 entries-long j (suc k) at bs rs h =
     let s = split k at bs rs h in
-    let t = entries-long j k (at + size (s .head)) (drop (size (s .head)) bs) (s .tail) (s .rest) in
-    (ap length (s .joined) ∙ ap suc (t .0),
-    ap (λ (z : List Raw). some-long (map (seen j) z)) (s .joined)
-    ∙ or-from (ltb max-message (length (s .head .message))) (some-long (map (seen j) (s .tail))) (le-ltb max-message (length (s .head .message)) (s .first .message .small)) (t .1))
+    let t = entries-long j k (at + size (s .head)) (drop (size (s .head)) bs) (s .tail) (s .rest) in (
+      ap length (s .joined) ∙ ap suc (t .0),
+      ap (λ (z : List Raw). some-long (map (seen j) z)) (s .joined)
+          ∙ or-from (ltb max-message (length (s .head .message))) (some-long (map (seen j) (s .tail))) (le-ltb max-message (length (s .head .message)) (s .first .message .small)) (t .1),
+    )
 
 -- a bundle without faults has at most 256 entries, and no long message
 two-tests : {X E : Type 0} (a b : Bool) (e f : E) (r : Result X E) (x : X) → cond a (Err e) (cond b (Err f) r) ≡ Ok x → (a ≡ false) × (b ≡ false) × (r ≡ Ok x)
@@ -200,7 +204,8 @@ concluded j input rs before after r h e d =
     record {
       answer = d .answer ∙ c ∙ ap (λ n. cond (ltb room n) (Err (SmallBuffer n)) (Ok n)) l ∙ ap (λ z. answered z room) (sym a);
       listing = d .listing ∙ ap (λ z. cond (isOk r) z before)
-        ((λ i. map-map (verdict j) (seen j) rs i ++ drop (l i) before) ∙ ap (λ z. listed j z before) (sym a)) }
+          ((λ i. map-map (verdict j) (seen j) rs i ++ drop (l i) before) ∙ ap (λ z. listed j z before) (sym a));
+    }
   where
     map-map : {A B C : Type 0} (f : B → C) (g : A → B) (xs : List A) → map f (map g xs) ≡ map (λ x. f (g x)) xs
     map-map f g [] = refl

@@ -93,13 +93,13 @@ clipped bs a b a′ b′ p q h =
     let l = length-drop a bs in
     ap (λ z. take (b′ - z) (drop z bs)) s
     ∙ ⊎-elim (λ k. let e : b′ ≡ b = omega arith in ap (λ z. take (z - a) (drop a bs)) e)
-        (λ k. take-all (b′ - a) (drop a bs) (omega arith) ∙ sym (take-all (b - a) (drop a bs) (omega arith)))
-        (cases-lt b (length bs))
+    (λ k. take-all (b′ - a) (drop a bs) (omega arith) ∙ sym (take-all (b - a) (drop a bs) (omega arith)))
+    (cases-lt b (length bs))
 
 pub clipped-none : (bs : List ℕ) (a b a′ b′ : ℕ) → a′ ≡ min a (length bs) → b′ ≡ min b (length bs) → b′ ≤ a′ → [] ≡ take (b - a) (drop a bs)
 clipped-none bs a b a′ b′ p q h =
     ⊎-elim (λ k. let e : b - a ≡ 0 = omega arith in sym (ap (λ z. take z (drop a bs)) e))
-      (λ k. none (b - a) ∙ sym (ap (take (b - a)) (drop-all a bs k))) (cases-lt a (length bs))
+    (λ k. none (b - a) ∙ sym (ap (take (b - a)) (drop-all a bs k))) (cases-lt a (length bs))
   where
     none : (n : ℕ) → _≡_ {A = List ℕ} [] (take n [])
     none zero = refl

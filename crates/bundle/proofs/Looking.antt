@@ -63,9 +63,10 @@ short-at (e ∷ es) (suc i) d h q = short-at es i d (omega arith) (or-parts (ltb
 pub verdicts-more : {X Y : Type 0} (f : X → Y) (xs : List X) (i : ℕ) (x : X) (before now : List Y) (y : Y) → i < length xs → i < length now → ((d : X) → getD xs i d ≡ x) → y ≡ f x
     → (take i now ≡ map f (take i xs)) × (drop i now ≡ drop i before)
     → (take (i + 1) (set now i y) ≡ map f (take (i + 1) xs)) × (drop (i + 1) (set now i y) ≡ drop (i + 1) before)
-verdicts-more f xs i x before now y h k e q p =
-    (take-more-set now i y k ∙ (λ j. p .0 j ++ q j ∷ []) ∙ ap (λ z. map f (take i xs) ++ f z ∷ []) (sym (e x)) ∙ sym (map-more f xs i x h),
-    drop-set-lt (i + 1) now i y (omega arith) ∙ sym (drop-drop 1 i now) ∙ ap (drop 1) (p .1) ∙ drop-drop 1 i before)
+verdicts-more f xs i x before now y h k e q p = (
+  take-more-set now i y k ∙ (λ j. p .0 j ++ q j ∷ []) ∙ ap (λ z. map f (take i xs) ++ f z ∷ []) (sym (e x)) ∙ sym (map-more f xs i x h),
+  drop-set-lt (i + 1) now i y (omega arith) ∙ sym (drop-drop 1 i now) ∙ ap (drop 1) (p .1) ∙ drop-drop 1 i before,
+)
 
 pub verdicts-all : {X Y : Type 0} (f : X → Y) (xs : List X) (i : ℕ) (before now : List Y) → i ≡ length xs
     → (take i now ≡ map f (take i xs)) × (drop i now ≡ drop i before) → now ≡ map f xs ++ drop (length xs) before

@@ -39,9 +39,9 @@ ongoing-more bs count i at spans s at′ h k e q o =
     let rest = entries (count - (i + 1)) at′ (drop at′ bs) in
     let d : drop (size (raw bs s)) (drop at bs) ≡ drop at′ bs = drop-drop (size (raw bs s)) at bs ∙ ap (λ z. drop z bs) (sym q) in
     let u : entries (count - i) at (drop at bs) ≡ mapOk (λ rs. raw bs s ∷ rs) rest =
-        entries-more (count - i) (count - (i + 1)) at (drop at bs) n
-        ∙ ap (λ z. following z (λ r. entries (count - (i + 1)) (at + size r) (drop (size r) (drop at bs)))) e
-        ∙ (λ j. mapOk (λ rs. raw bs s ∷ rs) (entries (count - (i + 1)) (sym q j) (d j))) in
+    entries-more (count - i) (count - (i + 1)) at (drop at bs) n
+    ∙ ap (λ z. following z (λ r. entries (count - (i + 1)) (at + size r) (drop (size r) (drop at bs)))) e
+    ∙ (λ j. mapOk (λ rs. raw bs s ∷ rs) (entries (count - (i + 1)) (sym q j) (d j))) in
     ap (λ z. mapOk (λ rs. z ++ rs) rest) (raws-more bs i spans s k)
     ∙ sym (more-ok (raws bs i spans) (raw bs s) rest)
     ∙ ap (mapOk (λ rs. raws bs i spans ++ rs)) (sym u) ∙ o
@@ -50,7 +50,7 @@ pub ongoing-fault : (bs : List ℕ) (count i at : ℕ) (spans : List Spans) (f :
     → entry at (drop at bs) ≡ Err f → Ongoing bs count i at spans → entries count 2 (drop 2 bs) ≡ Err f
 ongoing-fault bs count i at spans f h e o =
     sym o ∙ ap (mapOk (λ rs. raws bs i spans ++ rs))
-      (entries-more (count - i) (count - (i + 1)) at (drop at bs) (omega arith) ∙ ap (λ z. following z (λ r. entries (count - (i + 1)) (at + size r) (drop (size r) (drop at bs)))) e)
+    (entries-more (count - i) (count - (i + 1)) at (drop at bs) (omega arith) ∙ ap (λ z. following z (λ r. entries (count - (i + 1)) (at + size r) (drop (size r) (drop at bs)))) e)
 
 ended : (bs : List ℕ) (count i at : ℕ) (spans : List Spans) → count ≤ i → Ongoing bs count i at spans
     → entries count 2 (drop 2 bs) ≡ mapOk (λ rs. raws bs i spans ++ rs) (cond (eqb (length (drop at bs)) 0) (Ok []) (Err (fault ExtraData at)))

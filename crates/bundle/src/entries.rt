@@ -65,7 +65,10 @@ pub impl<'a, V: Verifier> Entries for BundleEntries<'a, V> as BundleEntriesReade
 
     fn entry(&self, place: usize) -> Option<Entry<'_, V::Certificate>> {
         match self.bundle.raw(place) {
-            Some(raw) => Some(Entry { message: raw.message, certificate: raise(self.verifier, raw.certificate, raw.place) }),
+            Some(raw) => Some(Entry {
+                message: raw.message,
+                certificate: raise(self.verifier, raw.certificate, raw.place),
+            }),
             None => None,
         }
     }

@@ -25,7 +25,11 @@ fn part(bytes: &[u8], span: Span) -> &[u8]
 {
     let start = span.start.min(bytes.len());
     let end = span.end.min(bytes.len());
-    if start < end { &bytes[start..end] } else { &bytes[0..0] }
+    if start < end {
+        &bytes[start..end]
+    } else {
+        &bytes[0..0]
+    }
 }
 
 impl<'a> Bundle<'a> {
@@ -34,7 +38,11 @@ impl<'a> Bundle<'a> {
         ensures held { λ r. ⌜ r ≡ length (held-by (now (self .entry))) ⌝ }
         ensures few { λ r. ⌜ r ≤ max-certificates ⌝ }
     {
-        if self.count < MAX_CERTIFICATES { self.count } else { MAX_CERTIFICATES }
+        if self.count < MAX_CERTIFICATES {
+            self.count
+        } else {
+            MAX_CERTIFICATES
+        }
     }
 
     pub fn raw(&self, place: usize) -> Option<RawEntry<'_>>
@@ -46,6 +54,10 @@ impl<'a> Bundle<'a> {
         let spans = self.spans[place];
         let message = part(self.bytes, spans.message);
         let certificate = part(self.bytes, spans.certificate);
-        Some(RawEntry { message, place: spans.certificate.start, certificate })
+        Some(RawEntry {
+            message,
+            place: spans.certificate.start,
+            certificate,
+        })
     }
 }

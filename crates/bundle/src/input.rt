@@ -24,13 +24,21 @@ pub fn admit(input: &[u8]) -> Result<&[u8], BundleFault>
     ensures { λ r. ⌜ Cases r (λ b. (length (now (input .entry)) ≤ max-input) × (now b ≡ now (input .entry))) (λ f. (max-input < length (now (input .entry))) × (f ≡ fault FaultKind.InvalidLength max-input)) ⌝ }
 {
     if input.len() > MAX_INPUT {
-        return Err(BundleFault { kind: FaultKind::InvalidLength, layer: Layer::Bundle, place: MAX_INPUT });
+        return Err(BundleFault {
+            kind: FaultKind::InvalidLength,
+            layer: Layer::Bundle,
+            place: MAX_INPUT,
+        });
     }
     Ok(input)
 }
 
 /// Reads a bundle and judges its entries.
-pub fn judge_input<'a, V: Verifier>(verifier: &'a V, input: &'a [u8], verdicts: &mut [Verdict]) -> Result<usize, Refusal>
+pub fn judge_input<'a, V: Verifier>(
+    verifier: &'a V,
+    input: &'a [u8],
+    verdicts: &mut [Verdict],
+) -> Result<usize, Refusal>
     ensures { λ r. ⌜ Concluded (V·Verifier .judging (now (verifier .entry))) (now (input .entry)) (now (verdicts .entry)) (now (verdicts .exit)) r ⌝ }
 {
     let bundle = Bundle::read(admit(input)?)?;

@@ -46,7 +46,11 @@ fn verdict<V: Verifier>(verifier: &V, entry: &Entry<'_, V::Certificate>) -> Verd
 }
 
 /// Judges each entry; the verdicts stand at the front of the listing, in the order of the entries.
-pub fn judge<V: Verifier, E: Entries<Certificate = V::Certificate>>(verifier: &V, entries: &E, verdicts: &mut [Verdict]) -> Result<usize, Refusal>
+pub fn judge<V: Verifier, E: Entries<Certificate = V::Certificate>>(
+    verifier: &V,
+    entries: &E,
+    verdicts: &mut [Verdict],
+) -> Result<usize, Refusal>
     ensures { λ r. ⌜ Judged (V·Verifier .judging (now (verifier .entry))) (E·Entries .entries (now (entries .entry))) (now (verdicts .entry)) (now (verdicts .exit)) r ⌝ }
 {
     if !messages_fit(entries) {
@@ -54,7 +58,9 @@ pub fn judge<V: Verifier, E: Entries<Certificate = V::Certificate>>(verifier: &V
     }
     let count = entries.len();
     if count > MAX_CERTIFICATES {
-        return Err(Refusal::TooMany { limit: MAX_CERTIFICATES });
+        return Err(Refusal::TooMany {
+            limit: MAX_CERTIFICATES,
+        });
     }
     if verdicts.len() < count {
         return Err(Refusal::SmallBuffer { needed: count });

@@ -22,12 +22,19 @@ use refusals::MAX_MESSAGE;
 /// The most that two bytes hold.
 const MAX_PREFIX: usize = 65_535;
 
-const BLANK: Spans = Spans { message: Span { start: 0, end: 0 }, certificate: Span { start: 0, end: 0 } };
+const BLANK: Spans = Spans {
+    message: Span { start: 0, end: 0 },
+    certificate: Span { start: 0, end: 0 },
+};
 
 fn fault(kind: FaultKind, place: usize) -> BundleFault
     ensures { λ r. ⌜ r ≡ record { kind = kind; layer = Layer.Bundle; place = place } ⌝ }
 {
-    BundleFault { kind, layer: Layer::Bundle, place }
+    BundleFault {
+        kind,
+        layer: Layer::Bundle,
+        place,
+    }
 }
 
 // A field at a place: a length in two bytes, at most a limit, and as many bytes.
@@ -46,7 +53,10 @@ fn field(bytes: &[u8], at: usize, limit: usize) -> Result<Span, BundleFault>
     if bytes.len() - start < long {
         return Err(fault(FaultKind::EndOfBuffer, start));
     }
-    Ok(Span { start, end: start + long })
+    Ok(Span {
+        start,
+        end: start + long,
+    })
 }
 
 // An entry at a place: a message, then a certificate.
@@ -56,7 +66,10 @@ fn entry(bytes: &[u8], at: usize) -> Result<Spans, BundleFault>
 {
     let message = field(bytes, at, MAX_MESSAGE)?;
     let certificate = field(bytes, message.end, MAX_PREFIX)?;
-    Ok(Spans { message, certificate })
+    Ok(Spans {
+        message,
+        certificate,
+    })
 }
 
 impl<'a> Bundle<'a> {
@@ -82,6 +95,10 @@ impl<'a> Bundle<'a> {
         if at < bytes.len() {
             return Err(fault(FaultKind::ExtraData, at));
         }
-        Ok(Bundle { bytes, count, spans })
+        Ok(Bundle {
+            bytes,
+            count,
+            spans,
+        })
     }
 }

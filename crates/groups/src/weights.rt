@@ -29,7 +29,10 @@ pub impl Weights for Counting as CountingWeights {
     ghost coming = { λ s k. record { high = 0; low = (s .state + k) % 2 ^ 64 } };
 
     fn draw(&mut self) -> Weight {
-        let weight = Weight { high: 0, low: self.state };
+        let weight = Weight {
+            high: 0,
+            low: self.state,
+        };
         self.state = self.state.wrapping_add(1);
         weight
     }

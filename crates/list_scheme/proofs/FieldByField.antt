@@ -77,6 +77,7 @@ signatures-length width (suc k) at bs ss e = go (signatures-length width k (at +
     more : (r : Result (List (List ℕ)) CertificateFault) → ((z : List (List ℕ)) → r ≡ Ok z → length z ≡ k) → mapOk (λ z. take width bs ∷ z) r ≡ Ok ss → length ss ≡ suc k
     more (Ok z) p q = let u : _≡_ {A = List (List ℕ)} ss (take width bs ∷ z) = cc in ap length u ∙ ap suc (p z refl)
     more (Err f) p q = never (cc)
+
     go : ((z : List (List ℕ)) → signatures width k (at + width) (drop width bs) ≡ Ok z → length z ≡ k) → (t : Bool)
         → cond t (Err (fault EndOfBuffer Signatures at)) (mapOk (λ z. take width bs ∷ z) (signatures width k (at + width) (drop width bs))) ≡ Ok ss → length ss ≡ suc k
     go p true q = never (cc)
@@ -98,6 +99,7 @@ module _ (width bound : ℕ) (bs : List ℕ) (b : Bitmap) (at : ℕ) (e : read-b
     -- they were read
     pub behind-all : (ss : List (List ℕ)) (end : ℕ) → signatures width (v .value) (at + v .size) (drop (at + v .size) bs) ≡ Ok ss → end ≡ at + v .size + v .value * width
         → (length ss ≡ v .value) × (read-list width bound bs ≡ finished b at end (length bs) (Ok ss))
-    behind-all ss end k z =
-        (signatures-length width (v .value) (at + v .size) (drop (at + v .size) bs) ss k,
-        behind ∙ count-within width bound bs b at v r h ∙ (λ i. finished b at (sym z i) (length bs) (k i)))
+    behind-all ss end k z = (
+      signatures-length width (v .value) (at + v .size) (drop (at + v .size) bs) ss k,
+      behind ∙ count-within width bound bs b at v r h ∙ (λ i. finished b at (sym z i) (length bs) (k i)),
+    )

@@ -50,8 +50,8 @@ ongoing-more bs width count start i at at′ ss s h k l q e o =
     let g = length-drop at bs in
     let rest = signatures width (count - (i + 1)) at′ (drop at′ bs) in
     let u : signatures width (count - i) at (drop at bs) ≡ mapOk (λ rs. signed s ∷ rs) rest =
-        ap (λ z. signatures width z at (drop at bs)) n ∙ enough width (count - (i + 1)) at (drop at bs) (omega arith)
-        ∙ (λ j. mapOk (λ rs. sym e j ∷ rs) (signatures width (count - (i + 1)) (sym q j) (d j))) in
+    ap (λ z. signatures width z at (drop at bs)) n ∙ enough width (count - (i + 1)) at (drop at bs) (omega arith)
+    ∙ (λ j. mapOk (λ rs. sym e j ∷ rs) (signatures width (count - (i + 1)) (sym q j) (d j))) in
     ap (λ z. mapOk (λ rs. z ++ rs) rest) (ap (map signed) (take-more-set ss i s k) ∙ map-push signed (take i ss) s)
     ∙ sym (more-ok (first-signed i ss) (signed s) rest)
     ∙ ap (mapOk (λ rs. first-signed i ss ++ rs)) (sym u) ∙ o

@@ -58,7 +58,7 @@ module _ (m : KeyMeaning) (keys : List (List ℕ)) (payload : List ℕ) (n bits 
 
   met : (i at : ℕ) → i < n → has bits i ≡ true → length ss ≡ length (members-below n bits) → at ≡ length (members-below i bits)
       → each-good m keys payload (drop at (members-below n bits)) (drop at ss)
-        ≡ (m .good (getD keys i []) payload (getD ss at []) && each-good m keys payload (drop (at + 1) (members-below n bits)) (drop (at + 1) ss))
+      ≡ (m .good (getD keys i []) payload (getD ss at []) && each-good m keys payload (drop (at + 1) (members-below n bits)) (drop (at + 1) ss))
   met i at h k l e =
       let c = count-lt i n bits h k in
       let a = drop-more (members-below n bits) at 0 (omega arith) in
@@ -68,9 +68,10 @@ module _ (m : KeyMeaning) (keys : List (List ℕ)) (payload : List ℕ) (n bits 
       ∙ ap (λ z. m .good (getD keys z []) payload (getD ss at []) && each-good m keys payload (drop (at + 1) (members-below n bits)) (drop (at + 1) ss)) x
 
   pub going-in : (i at : ℕ) → i < n → has bits i ≡ true → length ss ≡ length (members-below n bits) → m .good (getD keys i []) payload (getD ss at []) ≡ true → Going i at → Going (i + 1) (at + 1)
-  going-in i at h k l t g =
-      (ap (λ z. z + 1) (g .0) ∙ sym (count-in i bits k),
-      sym (met i at h k l (g .0) ∙ ap (λ z. z && each-good m keys payload (drop (at + 1) (members-below n bits)) (drop (at + 1) ss)) t) ∙ g .1)
+  going-in i at h k l t g = (
+    ap (λ z. z + 1) (g .0) ∙ sym (count-in i bits k),
+    sym (met i at h k l (g .0) ∙ ap (λ z. z && each-good m keys payload (drop (at + 1) (members-below n bits)) (drop (at + 1) ss)) t) ∙ g .1,
+  )
 
   pub going-bad : (i at : ℕ) → i < n → has bits i ≡ true → length ss ≡ length (members-below n bits) → m .good (getD keys i []) payload (getD ss at []) ≡ false → Going i at → false ≡ each-good m keys payload (members-below n bits) ss
   going-bad i at h k l t g =

@@ -52,13 +52,13 @@ signatures-lower : (width k at : ℕ) (bs : List ℕ) → lower (signatures widt
 signatures-lower width zero at bs = tt
 signatures-lower width (suc k) at bs =
     lower-cond (ltb (length bs) width) (Err (fault EndOfBuffer Signatures at)) _ (apart (λ e. omega arith))
-      (lower-map (λ ss. take width bs ∷ ss) (signatures width k (at + width) (drop width bs)) (signatures-lower width k (at + width) (drop width bs)))
+    (lower-map (λ ss. take width bs ∷ ss) (signatures width k (at + width) (drop width bs)) (signatures-lower width k (at + width) (drop width bs)))
 
 finished-lower : (b : bitmaps.Bitmap) (at end total : ℕ) (r : Result (List (List ℕ)) CertificateFault) → lower r → lower (finished b at end total r)
 finished-lower b at end total (Err f) h = h
 finished-lower b at end total (Ok ss) h =
     lower-cond (eqb (length (members b)) (length ss)) _ (Err (fault Invalid Certificate at))
-      (lower-cond (ltb end total) (Err (fault ExtraData Certificate end)) (Ok (record { bitmap = b; signatures = ss })) (apart (λ e. omega arith)) tt) (apart (λ e. omega arith))
+    (lower-cond (ltb end total) (Err (fault ExtraData Certificate end)) (Ok (record { bitmap = b; signatures = ss })) (apart (λ e. omega arith)) tt) (apart (λ e. omega arith))
 
 misread-lower : (f : VarintFault) (at : ℕ) → misread f at .layer ≡ Bundle → ⊥
 misread-lower varints.EndOfBuffer at = apart (λ e. omega arith)
@@ -68,7 +68,7 @@ listed-lower : (width bound : ℕ) (b : bitmaps.Bitmap) (at : ℕ) (bs : List �
 listed-lower width bound b at bs (Err f) = misread-lower f at
 listed-lower width bound b at bs (Ok v) =
     lower-cond (ltb (min bound max-members) (v .value)) (Err (fault InvalidLength Signatures at)) _ (apart (λ e. omega arith))
-      (finished-lower b at (at + v .size + v .value * width) (length bs) _ (signatures-lower width (v .value) (at + v .size) (drop (at + v .size) bs)))
+    (finished-lower b at (at + v .size + v .value * width) (length bs) _ (signatures-lower width (v .value) (at + v .size) (drop (at + v .size) bs)))
 
 signed-lower : (width bound : ℕ) (bs : List ℕ) (r : Result bitmaps.Bitmap BitmapFault) → lower (signed-by width bound bs r)
 signed-lower width bound bs (Err f) = apart (λ e. omega arith)

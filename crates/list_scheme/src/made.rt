@@ -27,13 +27,21 @@ impl ListCertificate {
         for (i, signature) in signatures.iter().enumerate() {
             table[i] = *signature;
         }
-        Ok(ListCertificate { signers, signatures: table, count: signatures.len() })
+        Ok(ListCertificate {
+            signers,
+            signatures: table,
+            count: signatures.len(),
+        })
     }
 
     /// How many signatures it has.
     pub fn len(&self) -> usize
         ensures { λ r. ⌜ r ≡ length (parts (now (self .entry)) .signatures) ⌝ }
     {
-        if self.count < MAX_MEMBERS { self.count } else { MAX_MEMBERS }
+        if self.count < MAX_MEMBERS {
+            self.count
+        } else {
+            MAX_MEMBERS
+        }
     }
 }

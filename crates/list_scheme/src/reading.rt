@@ -38,7 +38,12 @@ fn fault(kind: FaultKind, layer: Layer, place: usize) -> CertificateFault
 }
 
 // So many signatures of a width, from a place on.
-fn signatures(bytes: &[u8], start: usize, count: usize, width: usize) -> Result<Found, CertificateFault>
+fn signatures(
+    bytes: &[u8],
+    start: usize,
+    count: usize,
+    width: usize,
+) -> Result<Found, CertificateFault>
     requires within { ⌜ start ≤ length (now bytes) ⌝ }
     requires few { ⌜ count ≤ 64 ⌝ }
     requires narrow { ⌜ width ≤ 64 ⌝ }
@@ -55,7 +60,11 @@ fn signatures(bytes: &[u8], start: usize, count: usize, width: usize) -> Result<
         signatures[i] = Signature::new(&bytes[at..end]);
         at = end;
     }
-    Ok(Found { signatures, count, end: at })
+    Ok(Found {
+        signatures,
+        count,
+        end: at,
+    })
 }
 
 // A count that could not be read, at a place.
@@ -86,7 +95,11 @@ fn count(bytes: &[u8], at: usize, bound: usize) -> Result<Varint, CertificateFau
 
 impl ListCertificate {
     // A certificate of at most so many members, with signatures of a width.
-    pub(crate) fn read(bytes: &[u8], bound: usize, width: usize) -> Result<ListCertificate, CertificateFault>
+    pub(crate) fn read(
+        bytes: &[u8],
+        bound: usize,
+        width: usize,
+    ) -> Result<ListCertificate, CertificateFault>
         requires { ⌜ width ≤ 64 ⌝ }
         ensures { λ r. ⌜ mapOk parts r ≡ read-list width bound (now (bytes .entry)) ⌝ }
     {
@@ -104,6 +117,10 @@ impl ListCertificate {
             return Err(fault(FaultKind::ExtraData, Layer::Certificate, found.end));
         }
         let signatures = found.signatures;
-        Ok(ListCertificate { signers, signatures, count: found.count })
+        Ok(ListCertificate {
+            signers,
+            signatures,
+            count: found.count,
+        })
     }
 }

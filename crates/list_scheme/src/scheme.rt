@@ -40,12 +40,20 @@ pub struct ListScheme<K: KeyCheck, N: Namespace> {
 
 impl<K: KeyCheck, N: Namespace> ListScheme<K, N> {
     /// A scheme that checks certificates and cannot sign.
-    pub fn verifier(namespace: &[u8], members: &[Member<'_>], faults: Faults) -> Result<ListScheme<K, N>, Refusal>
+    pub fn verifier(
+        namespace: &[u8],
+        members: &[Member<'_>],
+        faults: Faults,
+    ) -> Result<ListScheme<K, N>, Refusal>
         ensures { λ r. ⌜ Made (K·KeyCheck .meaning .is-key) (now (namespace .entry)) (raw-keys (now (members .entry))) (λ s. (first-keys (K·KeyCheck .key) (s .roll .len) (s .roll .keys) ≡ raw-keys (now (members .entry))) × (s .faults ≡ faults) × (N·Namespace .bytes (s .namespace) ≡ N·Namespace .derived (now (namespace .entry)))) r ⌝ }
     {
         let namespace = N::derive(namespace)?;
         let roll = Roll::new(members)?;
-        Ok(ListScheme { roll, faults, namespace })
+        Ok(ListScheme {
+            roll,
+            faults,
+            namespace,
+        })
     }
 }
 
@@ -93,6 +101,7 @@ impl<K: KeyCheck, N: Namespace> ListScheme<K, N> {
 
 pub impl<K: KeyCheck, N: Namespace> Verifier for ListScheme<K, N> as ListSchemeVerifier {
     type Namespace = N;
+
     type Certificate = ListCertificate;
 
     ghost judging = { λ s. list-judging (K·KeyCheck .meaning) (first-keys (K·KeyCheck .key) (s .roll .len) (s .roll .keys)) (s .faults) (N·Namespace .bytes (s .namespace)) };
@@ -107,7 +116,11 @@ pub impl<K: KeyCheck, N: Namespace> Verifier for ListScheme<K, N> as ListSchemeV
         ListCertificate::read(bytes, bound, K::width())
     }
 
-    fn verify_certificate<B: Subject<Namespace = N>>(&self, subject: &B, certificate: &ListCertificate) -> Result<bool, Refusal> {
+    fn verify_certificate<B: Subject<Namespace = N>>(
+        &self,
+        subject: &B,
+        certificate: &ListCertificate,
+    ) -> Result<bool, Refusal> {
         let message = subject.message();
         if message.len() > MAX_MESSAGE {
             return Err(Refusal::TooMany { limit: MAX_MESSAGE });

@@ -58,7 +58,11 @@ pub impl From<BitmapFault> for CertificateFault as CertificateFaultFromBitmap {
     ghost converts = { λ f r. r ≡ layered f };
 
     fn from(fault: BitmapFault) -> CertificateFault {
-        CertificateFault { kind: fault.kind, layer: Layer::Bitmap, place: fault.place }
+        CertificateFault {
+            kind: fault.kind,
+            layer: Layer::Bitmap,
+            place: fault.place,
+        }
     }
 }
 
@@ -67,6 +71,10 @@ pub impl From<Placed> for BundleFault as BundleFaultFromPlaced {
 
     fn from(placed: Placed) -> BundleFault {
         let fault = placed.fault;
-        BundleFault { kind: fault.kind, layer: fault.layer, place: placed.at.saturating_add(fault.place) }
+        BundleFault {
+            kind: fault.kind,
+            layer: fault.layer,
+            place: placed.at.saturating_add(fault.place),
+        }
     }
 }

@@ -102,7 +102,10 @@ impl Refusal {
             Refusal::UnknownSigner { index }
             | Refusal::DuplicateSigner { index }
             | Refusal::MalformedSignature { index } => one(index as usize),
-            Refusal::InsufficientAttestations { required, found } => two(required as usize, found as usize),
+            Refusal::InsufficientAttestations { required, found } => two(
+                required as usize,
+                found as usize,
+            ),
             Refusal::SmallBuffer { needed } => one(needed),
             Refusal::TooMany { limit } => one(limit),
             Refusal::BadRoll { index } => one(index),
@@ -117,13 +120,19 @@ impl Refusal {
 fn one(value: usize) -> Values
     ensures { λ r. ⌜ listed r ≡ value ∷ [] ⌝ }
 {
-    Values { first: value, second: None }
+    Values {
+        first: value,
+        second: None,
+    }
 }
 
 fn two(first: usize, second: usize) -> Values
     ensures { λ r. ⌜ listed r ≡ first ∷ second ∷ [] ⌝ }
 {
-    Values { first, second: Some(second) }
+    Values {
+        first,
+        second: Some(second),
+    }
 }
 
 pub impl From<CertificateFault> for Refusal as RefusalFromCertificate {

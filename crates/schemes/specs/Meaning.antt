@@ -151,4 +151,4 @@ module _ (m : Meaning) where
     pub names : (xs : List Mark) → Proper xs → m .quorum ≤ length xs → (i : ℕ) → among i (named (m .assembled xs)) ≡ among i (signers xs)
     pub accepts : (t : Said) (xs : List Mark) → Proper xs → m .quorum ≤ length xs → Good t xs → m .judging .accepted t (m .assembled xs) ≡ true
     pub apart : (t : Said) (xs ys : List Mark) → Proper xs → Proper ys → Rising 0 (signers xs) → Rising 0 (signers ys) → m .quorum ≤ length xs → m .quorum ≤ length ys
-      → Good t xs → Good t ys → m .assembled xs ≡ m .assembled ys → xs ≡ ys
+        → Good t xs → Good t ys → m .assembled xs ≡ m .assembled ys → xs ≡ ys

@@ -18,6 +18,7 @@ pub trait Certificate: Copy {
 
 pub trait Verifier {
     type Namespace: Namespace;
+
     type Certificate: Certificate;
 
     ghost judging: { Self → Judging };
@@ -30,7 +31,11 @@ pub trait Verifier {
     fn read(&self, bytes: &[u8], bound: usize) -> Result<Self::Certificate, CertificateFault>
         ensures { λ r. ⌜ mapOk (Certificate·Certificate .parts) r ≡ judging (now (self .entry)) .reads bound (now (bytes .entry)) ⌝ };
 
-    fn verify_certificate<B: Subject<Namespace = Self::Namespace>>(&self, subject: &B, certificate: &Self::Certificate) -> Result<bool, Refusal>
+    fn verify_certificate<B: Subject<Namespace = Self::Namespace>>(
+        &self,
+        subject: &B,
+        certificate: &Self::Certificate,
+    ) -> Result<bool, Refusal>
         ensures { λ r. ⌜ r ≡ verified (judging (now (self .entry))) (B·Subject .said (now (subject .entry))) (Certificate·Certificate .parts (now (certificate .entry))) ⌝ };
 }
 

@@ -47,7 +47,9 @@ pub impl Namespace for PlainNamespace as PlainNamespaceKind {
         let mut bytes = [0u8; MAX_NAMESPACE];
         match put(&mut bytes, 0, base) {
             Some(len) => Ok(PlainNamespace { len, bytes }),
-            None => Err(Refusal::TooMany { limit: MAX_NAMESPACE }),
+            None => Err(Refusal::TooMany {
+                limit: MAX_NAMESPACE,
+            }),
         }
     }
 
@@ -76,12 +78,17 @@ pub impl Namespace for EditionNamespace as EditionNamespaceKind {
 
     fn derive(base: &[u8]) -> Result<EditionNamespace, Refusal> {
         if base.len() > MAX_NAMESPACE {
-            return Err(Refusal::TooMany { limit: MAX_NAMESPACE });
+            return Err(Refusal::TooMany {
+                limit: MAX_NAMESPACE,
+            });
         }
         let mut bytes = [0u8; MAX_EDITION_NAMESPACE];
         let _ = put(&mut bytes, 0, base);
         let _ = put(&mut bytes, base.len(), b"-E");
-        Ok(EditionNamespace { len: base.len() + 2, bytes })
+        Ok(EditionNamespace {
+            len: base.len() + 2,
+            bytes,
+        })
     }
 
     fn as_slice(&self) -> &[u8] {

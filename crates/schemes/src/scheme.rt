@@ -39,13 +39,27 @@ pub trait Scheme: Verifier {
     fn decodes(&self, signature: &[u8]) -> bool
         ensures { λ r. ⌜ r ≡ meaning (now (self .entry)) .decodes (now (signature .entry)) ⌝ };
 
-    fn sign<B: Subject<Namespace = Self::Namespace>>(&self, subject: &B) -> Result<Option<Attestation>, Refusal>
+    fn sign<B: Subject<Namespace = Self::Namespace>>(
+        &self,
+        subject: &B,
+    ) -> Result<Option<Attestation>, Refusal>
         ensures { λ r. ⌜ Signed (meaning (now (self .entry))) (signer (now (self .entry))) (B·Subject .said (now (subject .entry))) r ⌝ };
 
-    fn verify_attestation<B: Subject<Namespace = Self::Namespace>>(&self, subject: &B, attestation: &Attestation) -> Result<bool, Refusal>
+    fn verify_attestation<B: Subject<Namespace = Self::Namespace>>(
+        &self,
+        subject: &B,
+        attestation: &Attestation,
+    ) -> Result<bool, Refusal>
         ensures { λ r. ⌜ r ≡ attested (meaning (now (self .entry))) (B·Subject .said (now (subject .entry))) (mark (now (attestation .entry))) ⌝ };
 
-    fn verify_attestations<W: Weights, B: Subject<Namespace = Self::Namespace>>(&self, weights: &mut W, subject: &B, attestations: &[Attestation], invalid: &mut [u32], verified: &mut [Attestation]) -> Result<Verification, Refusal>
+    fn verify_attestations<W: Weights, B: Subject<Namespace = Self::Namespace>>(
+        &self,
+        weights: &mut W,
+        subject: &B,
+        attestations: &[Attestation],
+        invalid: &mut [u32],
+        verified: &mut [Attestation],
+    ) -> Result<Verification, Refusal>
         ensures answer { λ r. ⌜ Verified (meaning (now (self .entry))) (B·Subject .said (now (subject .entry))) (map mark (now (attestations .entry))) (W·Weights .coming (now (weights .entry))) (W·Weights .coming (now (weights .exit))) (now (invalid .entry)) (now (invalid .exit)) (map mark (now (verified .entry))) (map mark (now (verified .exit))) r ⌝ }
         ensures unchanged { λ r. ⌜ ((e : Refusal) → r ≡ Err e → (now (weights .exit) ≡ now (weights .entry)) × (now (verified .exit) ≡ now (verified .entry))) ⌝ };
 

@@ -6,11 +6,11 @@ ghost use denote.Ref.{now};
 ghost use lib.ListN.{length, take};
 ghost use Rattle.keys.specs.Bytes.{big-endian};
 ghost use Rattle.schemes.specs.Subjects.{Said, edition-message};
-use std::marker::PhantomData;
 use crate::namespace::EditionNamespace;
 use crate::namespace::EditionNamespaceKind;
 use crate::namespace::Namespace;
 use keys::put;
+use std::marker::PhantomData;
 
 pub trait Subject {
     type Namespace: Namespace;
@@ -35,7 +35,10 @@ impl<'a, N> Message<'a, N> {
     pub fn new(bytes: &'a [u8]) -> Message<'a, N>
         ensures { λ r. ⌜ now (r .bytes) ≡ now (bytes .entry) ⌝ }
     {
-        Message { bytes, kind: PhantomData }
+        Message {
+            bytes,
+            kind: PhantomData,
+        }
     }
 }
 

@@ -24,11 +24,12 @@ loop-place-again g c =
     let f = verdict (g .V·Verifier .judging (c .args .verifier .now)) in
     let i = c .loop-place .place in
     elim (c .match-entry .came) [
-      in-Some w ↦
-        let e = w .in-Some .ensures tt in
-        let m = verdicts-more f es i _ (c .args .verdicts .now) (c .loop-place .verdicts) (w .verdict .result) (e .0) (omega arith) (e .1) (w .verdict .ensures) (c .loop-place .inv) in
-        (ap (take (i + 1)) (w .verdicts-is) ∙ m .0, ap (drop (i + 1)) (w .verdicts-is) ∙ m .1)
-    | in-rest w ↦ absurd (omega (arith, w .in-rest .ensures tt)) ]
+      | in-Some w ↦
+          let e = w .in-Some .ensures tt in
+          let m = verdicts-more f es i _ (c .args .verdicts .now) (c .loop-place .verdicts) (w .verdict .result) (e .0) (omega arith) (e .1) (w .verdict .ensures) (c .loop-place .inv) in
+          (ap (take (i + 1)) (w .verdicts-is) ∙ m .0, ap (drop (i + 1)) (w .verdicts-is) ∙ m .1)
+      | in-rest w ↦ absurd (omega (arith, w .in-rest .ensures tt))
+    ]
 
 pub returns : need.returns
 returns g c =
@@ -37,4 +38,5 @@ returns g c =
     let n = c .len-count .ensures in
     record {
       answer = ap Ok n ∙ counted-all es (length (c .args .verdicts .now)) s (omega arith) (omega arith);
-      listing = verdicts-all (verdict (g .V·Verifier .judging (c .args .verifier .now))) es (c .loop-place .place) (c .args .verdicts .now) (c .loop-place .verdicts) (omega arith) (c .loop-place .inv) }
+      listing = verdicts-all (verdict (g .V·Verifier .judging (c .args .verifier .now))) es (c .loop-place .place) (c .args .verdicts .now) (c .loop-place .verdicts) (omega arith) (c .loop-place .inv);
+    }

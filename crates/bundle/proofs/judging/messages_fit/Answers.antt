@@ -12,10 +12,11 @@ returns-then-message-gt-MAX-MESSAGE g c =
 pub loop-place-again : need.loop-place-again
 loop-place-again g c =
     elim (c .match-message .came) [
-      in-Some·else-message-gt-MAX-MESSAGE w ↦
-        let e = w .in-Some .ensures tt in
-        long-passed (g .E·Entries .entries (c .args .entries .now)) (c .loop-place .place) (w .in-Some .message .now) (e .0) (e .1) (omega arith) (c .loop-place .inv)
-    | in-rest w ↦ absurd (omega (arith, w .in-rest .ensures tt)) ]
+      | in-Some·else-message-gt-MAX-MESSAGE w ↦
+          let e = w .in-Some .ensures tt in
+          long-passed (g .E·Entries .entries (c .args .entries .now)) (c .loop-place .place) (w .in-Some .message .now) (e .0) (e .1) (omega arith) (c .loop-place .inv)
+      | in-rest w ↦ absurd (omega (arith, w .in-rest .ensures tt))
+    ]
 
 pub returns : need.returns
 returns g c = long-none (g .E·Entries .entries (c .args .entries .now)) (c .loop-place .place) (omega arith) (c .loop-place .inv)

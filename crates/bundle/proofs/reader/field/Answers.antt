@@ -33,7 +33,10 @@ returns c =
     let d = length-drop at bs in
     let p = prefix-at bs at (omega arith) in
     let q : prefix (drop at bs) ≡ long = p ∙ sym (c .from-be-bytes-long .ensures) in
-    let l : at + 2 + long - (at + 2) ≡ long = omega arith in
-    (field-whole (c .args .limit) at (drop at bs) (omega arith) (omega arith) (omega arith)
-      ∙ ap (λ (z : _). Ok z) (ap (λ n. take n (drop 2 (drop at bs))) (q ∙ sym l) ∙ ap (take (at + 2 + long - (at + 2))) (drop-drop 2 at bs)),
-    refl, omega arith, (omega arith, omega arith))
+    let l : at + 2 + long - (at + 2) ≡ long = omega arith in (
+      field-whole (c .args .limit) at (drop at bs) (omega arith) (omega arith) (omega arith)
+          ∙ ap (λ (z : _). Ok z) (ap (λ n. take n (drop 2 (drop at bs))) (q ∙ sym l) ∙ ap (take (at + 2 + long - (at + 2))) (drop-drop 2 at bs)),
+      refl,
+      omega arith,
+      (omega arith, omega arith),
+    )

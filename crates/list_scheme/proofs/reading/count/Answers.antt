@@ -25,5 +25,5 @@ returns-else-count-min c =
 pub returns-in-Err : need.returns-in-Err
 returns-in-Err c width b =
     ap (listed width (c .args .bound) b (c .args .at) (c .args .bytes .now))
-      (ap read-varint (sym (tail-is (c .args .bytes .now) (c .args .at))) ∙ sym (c .in-Err .ensures tt .value))
+    (ap read-varint (sym (tail-is (c .args .bytes .now) (c .args .at))) ∙ sym (c .in-Err .ensures tt .value))
     ∙ ap Err (sym (c .misread .ensures))

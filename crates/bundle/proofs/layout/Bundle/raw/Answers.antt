@@ -13,6 +13,8 @@ returns c =
     let span = getD (s .spans) (c .args .place) blank in
     let h : c .args .place < length (Rattle.bundle.specs.Places.held-by s) = omega arith in
     let m = c .part-message .ensures in
-    let k = c .part-certificate .ensures in
-    (h, λ (d : Raw). raws-at (s .bytes .now) (s .count) (c .args .place) (s .spans) d h
-      ∙ (λ i. record { message = sym m i; place = span .certificate .start; certificate = sym k i }))
+    let k = c .part-certificate .ensures in (
+      h,
+      λ (d : Raw). raws-at (s .bytes .now) (s .count) (c .args .place) (s .spans) d h
+          ∙ (λ i. record { message = sym m i; place = span .certificate .start; certificate = sym k i }),
+    )

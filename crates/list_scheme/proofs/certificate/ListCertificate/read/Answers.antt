@@ -44,7 +44,7 @@ returns-in-Break-found c =
     let some : length (members b) ≢ 0 = λ z. c .if-count-eq0 .left (n ∙ z) in
     let v = c .in-Continue-listed .ensures tt in
     rw (p .1, p .2) (sym (behind-fault (c .args .width) (c .args .bound) (c .args .bytes .now) b (c .size-at .result) (sym (c .in-Continue-signers .ensures tt .read)) some (c .size-at .ensures)
-      (c .in-Continue-listed .listed) (v .0) (v .1) _ (sym (c .in-Break-found .ensures tt .read))))
+    (c .in-Continue-listed .listed) (v .0) (v .1) _ (sym (c .in-Break-found .ensures tt .read))))
 
 pub returns-then-count-found : need.returns-then-count-found
 returns-then-count-found c =
@@ -54,7 +54,7 @@ returns-then-count-found c =
     let v = c .in-Continue-listed .ensures tt in
     let f = c .in-Continue-found .ensures tt in
     let a = behind-all (c .args .width) (c .args .bound) (c .args .bytes .now) b (c .size-at .result) (sym (c .in-Continue-signers .ensures tt .read)) some (c .size-at .ensures)
-      (c .in-Continue-listed .listed) (v .0) (v .1) _ (c .in-Continue-found .found .end) (sym (f .read)) (f .end .1) in
+    (c .in-Continue-listed .listed) (v .0) (v .1) _ (c .in-Continue-found .found .end) (sym (f .read)) (f .end .1) in
     let m = c .count-3 .ensures in
     ap Err (c .fault-then-count-found .ensures)
     ∙ sym (a .1 ∙ finished-differ b (c .size-at .result) (c .in-Continue-found .found .end) (length (c .args .bytes .now)) _ (λ z. c .if-count-found .taken (m ∙ z ∙ a .0 ∙ sym (f .end .0))))
@@ -67,7 +67,7 @@ returns-then-found-bytes c =
     let v = c .in-Continue-listed .ensures tt in
     let f = c .in-Continue-found .ensures tt in
     let a = behind-all (c .args .width) (c .args .bound) (c .args .bytes .now) b (c .size-at .result) (sym (c .in-Continue-signers .ensures tt .read)) some (c .size-at .ensures)
-      (c .in-Continue-listed .listed) (v .0) (v .1) _ (c .in-Continue-found .found .end) (sym (f .read)) (f .end .1) in
+    (c .in-Continue-listed .listed) (v .0) (v .1) _ (c .in-Continue-found .found .end) (sym (f .read)) (f .end .1) in
     let m = c .count-3 .ensures in
     ap Err (c .fault-then-found-bytes .ensures)
     ∙ sym (a .1 ∙ finished-extra b (c .size-at .result) (c .in-Continue-found .found .end) (length (c .args .bytes .now)) _ (sym m ∙ c .if-count-found .left ∙ f .end .0 ∙ sym (a .0)) (omega arith))
@@ -80,6 +80,6 @@ returns c =
     let v = c .in-Continue-listed .ensures tt in
     let f = c .in-Continue-found .ensures tt in
     let a = behind-all (c .args .width) (c .args .bound) (c .args .bytes .now) b (c .size-at .result) (sym (c .in-Continue-signers .ensures tt .read)) some (c .size-at .ensures)
-      (c .in-Continue-listed .listed) (v .0) (v .1) _ (c .in-Continue-found .found .end) (sym (f .read)) (f .end .1) in
+    (c .in-Continue-listed .listed) (v .0) (v .1) _ (c .in-Continue-found .found .end) (sym (f .read)) (f .end .1) in
     let m = c .count-3 .ensures in
     sym (a .1 ∙ finished-whole b (c .size-at .result) (c .in-Continue-found .found .end) (length (c .args .bytes .now)) _ (sym m ∙ c .if-count-found .left ∙ f .end .0 ∙ sym (a .0)) (omega arith))

@@ -42,7 +42,7 @@ returns-then-not-verify g c =
     let p = going-place m keys (c .args .payload .now) (x .signers .len) (x .signers .bits) ss i at h t (c .pre .paired) (c .loop-member .inv) in
     let s : c .as-slice .result .now ≡ getD ss at [] = c .as-slice .ensures ∙ sym (signed-at (x .count) at (x .signatures) _ (p .0)) in
     let v : m .good (getD keys i []) (c .args .payload .now) (getD ss at []) ≡ false =
-        sym ((c .verify .ensures) ∙ (λ j. m .good (c .in-Some .ensures tt .1 j) (c .args .payload .now) (s j))) ∙ c .if-not-verify .taken in
+    sym ((c .verify .ensures) ∙ (λ j. m .good (c .in-Some .ensures tt .1 j) (c .args .payload .now) (s j))) ∙ c .if-not-verify .taken in
     going-bad m keys (c .args .payload .now) (x .signers .len) (x .signers .bits) ss i at h t (c .pre .paired) v (c .loop-member .inv)
 
 pub loop-member-again : need.loop-member-again
@@ -56,20 +56,21 @@ loop-member-again g c =
     let at = c .loop-member .at in
     let h : i < x .signers .len = omega (arith, c .pre .whole) in
     elim (c .if-contains .came) [
-      then-contains·in-Some·else-not-verify w ↦
-        let t = sym (c .contains .ensures) ∙ w .if-contains .taken in
-        let p = going-place m keys (c .args .payload .now) (x .signers .len) (x .signers .bits) ss i at h t (c .pre .paired) (c .loop-member .inv) in
-        let s : w .as-slice .result .now ≡ getD ss at [] = w .as-slice .ensures ∙ sym (signed-at (x .count) at (x .signatures) _ (p .0)) in
-        let v : m .good (getD keys i []) (c .args .payload .now) (getD ss at []) ≡ true =
-            sym ((w .verify .ensures) ∙ (λ j. m .good (w .in-Some .ensures tt .1 j) (c .args .payload .now) (s j))) ∙ w .if-not-verify .left in
-        let n = going-in m keys (c .args .payload .now) (x .signers .len) (x .signers .bits) ss i at h t (c .pre .paired) v (c .loop-member .inv) in
-        (w .at-is ∙ n .0, ap (λ z. each-good m keys (c .args .payload .now) (drop z ms) (drop z ss)) (w .at-is) ∙ n .1)
-    | else-contains w ↦
-        let n = going-out m keys (c .args .payload .now) (x .signers .len) (x .signers .bits) ss i at (sym (c .contains .ensures) ∙ w .if-contains .left) (c .loop-member .inv) in
-        (w .at-is ∙ n .0, ap (λ z. each-good m keys (c .args .payload .now) (drop z ms) (drop z ss)) (w .at-is) ∙ n .1) ]
+      | then-contains·in-Some·else-not-verify w ↦
+          let t = sym (c .contains .ensures) ∙ w .if-contains .taken in
+          let p = going-place m keys (c .args .payload .now) (x .signers .len) (x .signers .bits) ss i at h t (c .pre .paired) (c .loop-member .inv) in
+          let s : w .as-slice .result .now ≡ getD ss at [] = w .as-slice .ensures ∙ sym (signed-at (x .count) at (x .signatures) _ (p .0)) in
+          let v : m .good (getD keys i []) (c .args .payload .now) (getD ss at []) ≡ true =
+          sym ((w .verify .ensures) ∙ (λ j. m .good (w .in-Some .ensures tt .1 j) (c .args .payload .now) (s j))) ∙ w .if-not-verify .left in
+          let n = going-in m keys (c .args .payload .now) (x .signers .len) (x .signers .bits) ss i at h t (c .pre .paired) v (c .loop-member .inv) in
+          (w .at-is ∙ n .0, ap (λ z. each-good m keys (c .args .payload .now) (drop z ms) (drop z ss)) (w .at-is) ∙ n .1)
+      | else-contains w ↦
+          let n = going-out m keys (c .args .payload .now) (x .signers .len) (x .signers .bits) ss i at (sym (c .contains .ensures) ∙ w .if-contains .left) (c .loop-member .inv) in
+          (w .at-is ∙ n .0, ap (λ z. each-good m keys (c .args .payload .now) (drop z ms) (drop z ss)) (w .at-is) ∙ n .1)
+    ]
 
 pub returns : need.returns
 returns g c =
     let x = c .args .certificate .now in
     going-all (g .K·KeyCheck .meaning) (first-keys (g .K·KeyCheck .key) (c .args .self .now .roll .len) (c .args .self .now .roll .keys)) (c .args .payload .now) (x .signers .len) (x .signers .bits)
-      (first-signed (x .count) (x .signatures)) (c .loop-member .member) (c .loop-member .at) (omega (arith, c .pre .whole)) (c .pre .paired) (c .loop-member .inv)
+    (first-signed (x .count) (x .signatures)) (c .loop-member .member) (c .loop-member .at) (omega (arith, c .pre .whole)) (c .pre .paired) (c .loop-member .inv)

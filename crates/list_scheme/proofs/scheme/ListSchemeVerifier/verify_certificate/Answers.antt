@@ -16,12 +16,12 @@ pub returns-then-not-fits : need.returns-then-not-fits
 returns-then-not-fits g c =
     let s = c .args .self .now in
     answers-unfit (g .K·KeyCheck .meaning) (first-keys (g .K·KeyCheck .key) (s .roll .len) (s .roll .keys)) (s .faults) (g .N·Namespace .bytes (s .namespace)) (g .B·Subject .said (c .args .subject .now)) (parts (c .args .certificate .now))
-      (omega (arith, ap length (c .message-message .ensures))) (sym (c .if-not-fits .ensures tt))
+    (omega (arith, ap length (c .message-message .ensures))) (sym (c .if-not-fits .ensures tt))
 
 pub returns-in-Break-size : need.returns-in-Break-size
 returns-in-Break-size g c =
     absurd (payload-fits (c .namespace .result .now) (c .message-message .result .now) (replicate {A = ℕ} 1091 0) _
-      (omega (arith, ap length (c .namespace .ensures), g .N·Namespace .short (c .args .self .now .namespace))) (omega arith) (length-replicate {A = ℕ} 1091 0) (c .in-Break-size .ensures tt .0))
+    (omega (arith, ap length (c .namespace .ensures), g .N·Namespace .short (c .args .self .now .namespace))) (omega arith) (length-replicate {A = ℕ} 1091 0) (c .in-Break-size .ensures tt .0))
 
 pub all-good-requires : need.all-good-requires
 all-good-requires g c κs =
@@ -38,7 +38,7 @@ returns g c =
     let msg = c .message-message .result .now in
     let z : c .in-Continue-size .size - 0 ≡ length (payload ns msg) = omega (arith, w .size-is) in
     let e : take (c .in-Continue-size .size - 0) (c .union-unique .last .out) ≡ payload ns msg =
-        ap (λ n. take n (c .union-unique .last .out)) z ∙ ap (take (length (payload ns msg))) (w .written) ∙ overlaid-front (replicate {A = ℕ} 1091 0) (payload ns msg) in
+    ap (λ n. take n (c .union-unique .last .out)) z ∙ ap (take (length (payload ns msg))) (w .written) ∙ overlaid-front (replicate {A = ℕ} 1091 0) (payload ns msg) in
     answers-fit (g .K·KeyCheck .meaning) (first-keys (g .K·KeyCheck .key) (s .roll .len) (s .roll .keys)) (s .faults) (g .N·Namespace .bytes (s .namespace)) (g .B·Subject .said (c .args .subject .now)) (parts (c .args .certificate .now))
-      (omega (arith, ap length (c .message-message .ensures))) _ (c .all-good .result) (sym (c .if-not-fits .ensures tt))
-      (e ∙ (λ i. payload (c .namespace .ensures i) (c .message-message .ensures i))) (c .all-good .ensures)
+    (omega (arith, ap length (c .message-message .ensures))) _ (c .all-good .result) (sym (c .if-not-fits .ensures tt))
+    (e ∙ (λ i. payload (c .namespace .ensures i) (c .message-message .ensures i))) (c .all-good .ensures)

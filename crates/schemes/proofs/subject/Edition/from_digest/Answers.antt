@@ -15,5 +15,5 @@ returns c =
     let l : length (c .put-2 .last .out) ≡ 72 = search needs in
     sym (take-all (8 + length (c .args .digest .now)) (c .put-2 .last .out) (omega arith))
     ∙ put-two (replicate {A = ℕ} 72 0) (c .heading .result) (c .args .digest .now) (c .put .last .out) (c .put-2 .last .out) 8 (c .put .result) (c .put-2 .result)
-      (sym h) (omega arith) (c .put .ensures) (c .put-2 .ensures)
+    (sym h) (omega arith) (c .put .ensures) (c .put-2 .ensures)
     ∙ ap (λ z. z ++ c .args .digest .now) (c .heading .ensures)
