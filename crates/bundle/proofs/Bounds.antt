@@ -1,20 +1,20 @@
 -- What a bundle without faults is. Assumes nothing.
 use mathlib.Core.Path.{_≡_, refl, sym, ap, _∙_}
-use mathlib.Core.Bool.{Bool, true, false, cond, _||_}
+use mathlib.Core.Bool.{Bool, true, false, cond}
 use mathlib.Core.List.{List, [], _∷_, _++_, map}
 use Prim.Native.Nat.{ℕ, zero, suc, _+_, _-_, _*_, _/_, _%_, _<_, _≤_}
 use native.Mathlib.Omega.{arith}
 use native.Mathlib.Nat.{div-one, zero-add}
 use lib.Dec.{eqb, ltb}
 use lib.ListN.{length, getD, take, drop}
-use Rattle.std.proofs.shelf.Lists.{drop-more, drop-all, drop-drop, length-drop, length-take-le, append-assoc, take-append-drop, getD-drop, length-map}
+use Rattle.std.proofs.shelf.Lists.{drop-drop, length-drop, length-take-le, append-assoc, take-append-drop, getD-drop, length-map}
 use Rattle.std.proofs.shelf.Tests.{le-ltb, ltb-false, or-from, eqb-true}
 use Rattle.std.specs.declared.result.Result.{Result}
 use Rattle.std.specs.declared.result.Result.the-variants.{Ok, Err}
 use Rattle.refusals.specs.Limits.{max-message, max-certificates, max-input}
 use Rattle.refusals.specs.declared.fault.BundleFault.{BundleFault}
-use Rattle.refusals.specs.declared.fault.FaultKind.the-variants.{EndOfBuffer, InvalidLength, ExtraData}
-use Rattle.schemes.specs.Judging.{Judging, Seen}
+use Rattle.refusals.specs.declared.fault.FaultKind.the-variants.{InvalidLength, ExtraData}
+use Rattle.schemes.specs.Judging.{Judging}
 use Rattle.refusals.specs.Results.{mapOk}
 use Rattle.keys.specs.Bytes.{big-endian}
 use Rattle.bundle.specs.Layout.{bundle, field, fault, prefix, opening, closing, entry, entries, following, size, max-prefix, Raw, field-written, entries-written, bundle-written}

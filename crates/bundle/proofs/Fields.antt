@@ -1,23 +1,19 @@
 -- Fields of a bundle. Assumes nothing.
 use mathlib.Core.Path.{_≡_, refl, sym, ap, _∙_}
-use mathlib.Core.Bool.{Bool, true, false, cond}
-use mathlib.Core.List.{List, [], _∷_, _++_, map}
+use mathlib.Core.List.{List, [], _∷_}
 use mathlib.Core.Logic.{⊎-elim}
 use Prim.Native.Nat.{ℕ, zero, suc, _+_, _-_, _*_, _<_, _≤_, min}
 use native.Mathlib.Omega.{arith}
-use native.Mathlib.Nat.{zero-add, add-zero}
-use lib.Dec.{eqb, ltb}
+use native.Mathlib.Nat.{zero-add}
 use lib.ListN.{length, getD, take, drop}
-use Rattle.std.proofs.shelf.Lists.{drop-more, drop-drop, length-drop, take-more, length-take-le, take-all, drop-all}
+use Rattle.std.proofs.shelf.Lists.{drop-more, drop-drop, length-drop, length-take-le, take-all, drop-all}
 use Rattle.std.proofs.shelf.Tests.{lt-ltb, le-ltb, cases-lt}
-use Rattle.std.specs.declared.result.Result.{Result}
 use Rattle.std.specs.declared.result.Result.the-variants.{Ok, Err}
-use Rattle.std.specs.shelf.Digits.{number}
 use Rattle.refusals.specs.declared.fault.BundleFault.{BundleFault}
-use Rattle.refusals.specs.declared.fault.FaultKind.the-variants.{EndOfBuffer, InvalidLength, ExtraData}
+use Rattle.refusals.specs.declared.fault.FaultKind.the-variants.{EndOfBuffer, InvalidLength}
 use Rattle.refusals.specs.Limits.{max-message}
 use Rattle.bundle.specs.declared.layout.Span.{Span}
-use Rattle.bundle.specs.Layout.{field, fault, prefix, opening, closing, entry, size, max-prefix, Raw}
+use Rattle.bundle.specs.Layout.{field, fault, prefix, opening, closing, entry, size, max-prefix}
 use Rattle.bundle.specs.Places.{part, raw, Inside}
 
 -- two bytes at a place

@@ -1,16 +1,15 @@
 -- An entry of a bundle as a verifier reads it. Assumes nothing.
 use mathlib.Core.Path.{_≡_, refl, sym, ap, _∙_}
-use mathlib.Core.Bool.{Bool, true, false, not, cond, _||_}
+use mathlib.Core.Bool.{Bool, true, false, not, _||_}
 use mathlib.Core.List.{List, [], _∷_, _++_, map}
 use Prim.Native.Nat.{ℕ, zero, suc, _+_, _<_, _≤_}
 use native.Mathlib.Omega.{arith}
 use lib.Dec.{ltb}
 use lib.ListN.{length, getD, take, drop, set}
-use Rattle.std.proofs.shelf.Lists.{length-map, getD-map, drop-more, drop-all, take-more, take-more-set, drop-set-lt, map-more, take-all, take-append-drop, drop-drop}
+use Rattle.std.proofs.shelf.Lists.{length-map, getD-map, drop-more, drop-all, take-more-set, drop-set-lt, map-more, take-all, take-append-drop, drop-drop}
 use Rattle.std.proofs.shelf.Tests.{lt-ltb, le-ltb, ltb-false, or-parts}
 use Rattle.schemes.specs.Judging.{Judging, Seen}
 use Rattle.bundle.specs.Layout.{Raw, fault}
-use Rattle.std.specs.declared.result.Result.{Result}
 use Rattle.std.specs.declared.result.Result.the-variants.{Ok, Err}
 use Rattle.refusals.specs.Limits.{max-message, max-certificates}
 use Rattle.refusals.specs.declared.fault.FaultKind.the-variants.{EndOfBuffer}

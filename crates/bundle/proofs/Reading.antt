@@ -1,17 +1,16 @@
 -- Reading a bundle entry by entry. Assumes nothing.
 use mathlib.Core.Path.{_≡_, refl, sym, ap, _∙_}
-use mathlib.Core.Bool.{Bool, true, false, cond}
+use mathlib.Core.Bool.{cond}
 use mathlib.Core.List.{List, [], _∷_, _++_, map}
-use Prim.Native.Nat.{ℕ, zero, suc, _+_, _-_, _*_, _<_, _≤_, min}
+use Prim.Native.Nat.{ℕ, suc, _+_, _-_, _<_, _≤_, min}
 use native.Mathlib.Omega.{arith}
-use lib.Dec.{eqb, ltb}
+use lib.Dec.{eqb}
 use lib.ListN.{length, getD, take, drop, set}
 use Rattle.std.proofs.shelf.Lists.{drop-drop, length-drop, length-map, length-take, getD-map, getD-take, append-nil, take-more-set, map-push}
 use Rattle.std.proofs.shelf.Tests.{lt-ltb, le-ltb, eq-eqb, ne-eqb}
-use Rattle.std.specs.declared.result.Result.{Result}
 use Rattle.std.specs.declared.result.Result.the-variants.{Ok, Err}
 use Rattle.refusals.proofs.Prepending.{all-ok, more-ok}
-use Rattle.refusals.specs.Limits.{max-message, max-certificates}
+use Rattle.refusals.specs.Limits.{max-certificates}
 use Rattle.refusals.specs.declared.fault.BundleFault.{BundleFault}
 use Rattle.refusals.specs.declared.fault.FaultKind.the-variants.{EndOfBuffer, InvalidLength, ExtraData}
 use Rattle.refusals.specs.Results.{mapOk}

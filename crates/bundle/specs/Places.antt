@@ -1,9 +1,8 @@
 -- Where a bundle's entries lie in its bytes. Assumes nothing.
-use mathlib.Core.Path.{_≡_}
 use mathlib.Core.List.{List, map}
-use Prim.Native.Nat.{ℕ, _+_, _-_, _<_, _≤_}
+use Prim.Native.Nat.{ℕ, _+_, _-_, _≤_}
 use denote.Ref.{now}
-use lib.ListN.{length, getD, take, drop}
+use lib.ListN.{take, drop}
 use Rattle.refusals.specs.Limits.{max-message}
 use Rattle.bundle.specs.declared.layout.Bundle.{Bundle}
 use Rattle.bundle.specs.declared.layout.Span.{Span}

@@ -4,7 +4,6 @@ use Prim.Native.Nat.{ℕ}
 use lib.Chars.{codes}
 use Rattle.std.specs.Written.{decimal}
 use Rattle.refusals.specs.Numbers.{number, values, kind-number, layer-number}
-use Rattle.refusals.specs.declared.fault.BundleFault.{BundleFault}
 use Rattle.refusals.specs.declared.refusal.Refusal.{Refusal}
 use Rattle.bundle.specs.declared.verdict.Verdict.{Verdict}
 use Rattle.bundle.specs.declared.verdict.Verdict.the-variants.{Accepted, Rejected, Faulty}

@@ -1,9 +1,8 @@
 // A bundle's entries, read for a verifier.
 ghost use mathlib.Core.Path.{_≡_};
-ghost use mathlib.Core.List.{List, map};
-ghost use Prim.Native.Nat.{ℕ, _<_, _≤_};
+ghost use mathlib.Core.List.{map};
+ghost use Prim.Native.Nat.{_<_};
 ghost use denote.Ref.{now as at};
-ghost use lib.ListN.{length};
 ghost use Rattle.refusals.specs.Results.{mapOk, mapErr};
 ghost use Rattle.refusals.specs.Faults.{raised};
 ghost use Rattle.bundle.specs.Places.{held-by};

@@ -1,6 +1,6 @@
 // What a bundle holds.
 ghost use mathlib.Core.Path.{_≡_};
-ghost use Prim.Native.Nat.{ℕ, _<_, _≤_};
+ghost use Prim.Native.Nat.{_<_, _≤_};
 ghost use lib.ListN.{length, getD};
 ghost use Rattle.std.specs.Options.{Cases};
 ghost use Rattle.refusals.specs.Limits.{max-certificates};
@@ -8,7 +8,6 @@ ghost use Rattle.bundle.specs.Layout.{Raw};
 ghost use Rattle.bundle.specs.Places.{part as part-of, held-by};
 use crate::layout::Bundle;
 use crate::layout::Span;
-use crate::layout::Spans;
 use refusals::MAX_CERTIFICATES;
 
 /// An entry's bytes, and the place where its certificate begins.

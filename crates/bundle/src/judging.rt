@@ -1,7 +1,7 @@
 // Judging entries.
 ghost use mathlib.Core.Path.{_≡_};
 ghost use mathlib.Core.Bool.{not};
-ghost use Prim.Native.Nat.{ℕ, _≤_};
+ghost use Prim.Native.Nat.{_≤_};
 ghost use lib.ListN.{length};
 ghost use Rattle.refusals.specs.Limits.{max-message};
 ghost use Rattle.refusals.specs.Results.{mapOk};

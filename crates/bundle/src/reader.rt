@@ -1,15 +1,13 @@
 // Reading a bundle: its own faults are found here, once.
 ghost use mathlib.Core.Path.{_≡_};
-ghost use mathlib.Core.List.{List, map};
-ghost use Prim.Native.Nat.{ℕ, _+_, _<_, _≤_};
-ghost use lib.ListN.{length, getD, take, drop};
+ghost use Prim.Native.Nat.{_+_, _<_, _≤_};
+ghost use lib.ListN.{length, drop};
 ghost use Rattle.std.specs.Results.{Cases};
 ghost use Rattle.std.specs.Vec.{made};
 ghost use Rattle.std.specs.declared.result.Result.the-variants.{Ok, Err};
 ghost use Rattle.refusals.specs.Results.{mapOk};
-ghost use Rattle.bundle.specs.Layout.{bundle, bundle-written, field as field-of, entry as entry-of, max-prefix, size, Raw};
+ghost use Rattle.bundle.specs.Layout.{bundle, bundle-written, field as field-of, entry as entry-of, size};
 ghost use Rattle.bundle.specs.Places.{part, raw, held-by, Inside, Within};
-ghost use Rattle.refusals.specs.Limits.{max-message};
 use crate::layout::Bundle;
 use crate::layout::Span;
 use crate::layout::Spans;

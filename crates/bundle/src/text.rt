@@ -1,5 +1,4 @@
 // The lines that a program prints.
-ghost use mathlib.Core.List.{_++_};
 ghost use Rattle.std.specs.declared.option.Option.the-variants.{Some};
 ghost use Rattle.bundle.specs.Text.{line-text, refused-text};
 use crate::verdict::Verdict;

@@ -5,7 +5,7 @@ use mathlib.Core.Logic.{_≢_}
 use mathlib.Core.List.{List, [], _∷_}
 use Prim.Native.Nat.{ℕ, zero, suc, _+_, _-_, _*_, _<_, _≤_, min}
 use native.Mathlib.Omega.{arith}
-use lib.Dec.{eqb, ltb}
+use lib.Dec.{ltb}
 use lib.ListN.{length, take, drop}
 use Rattle.std.proofs.shelf.Lists.{length-drop, take-all}
 use Rattle.std.proofs.shelf.Tests.{lt-ltb, le-ltb, eq-eqb, ne-eqb}
@@ -23,7 +23,6 @@ use Rattle.keys.specs.declared.varint.Varint.{Varint}
 use Rattle.rolls.specs.Bitmap.{Bitmap, members, read-bitmap}
 use Rattle.rolls.specs.Signers.{written-size}
 use Rattle.rolls.proofs.Readings.{read-from}
-use Rattle.schemes.specs.Judging.{Parts}
 use Rattle.list_scheme.specs.Reading.{fault, signatures, finished, listed, signed-by, read-list}
 
 -- the bitmap lies within the bytes

@@ -1,19 +1,16 @@
 -- Reading signatures one by one. Assumes nothing.
 use mathlib.Core.Path.{_≡_, refl, sym, ap, _∙_}
-use mathlib.Core.Bool.{Bool, true, false, cond}
+use mathlib.Core.Bool.{cond}
 use mathlib.Core.List.{List, [], _∷_, _++_, map}
-use Prim.Native.Nat.{ℕ, zero, suc, _+_, _-_, _*_, _<_, _≤_}
+use Prim.Native.Nat.{ℕ, suc, _+_, _-_, _<_, _≤_}
 use native.Mathlib.Omega.{arith}
-use lib.Dec.{leb, eqb, ltb}
-use lib.ListN.{length, getD, take, drop, set}
+use lib.ListN.{length, take, drop, set}
 use Rattle.std.proofs.shelf.Lists.{drop-drop, length-drop, append-nil, take-more-set, map-push, length-take-le}
 use Rattle.std.proofs.shelf.Tests.{lt-ltb, le-ltb, le-leb}
-use Rattle.std.specs.declared.result.Result.{Result}
 use Rattle.std.specs.declared.result.Result.the-variants.{Ok, Err}
 use Rattle.refusals.proofs.Prepending.{all-ok, more-ok}
 use Rattle.refusals.specs.Results.{mapOk}
-use Rattle.refusals.specs.declared.fault.CertificateFault.{CertificateFault}
-use Rattle.refusals.specs.declared.fault.FaultKind.the-variants.{EndOfBuffer, InvalidLength, Invalid, ExtraData}
+use Rattle.refusals.specs.declared.fault.FaultKind.the-variants.{EndOfBuffer}
 use Rattle.refusals.specs.declared.fault.Layer.the-variants.{Signatures}
 use Rattle.keys.specs.Signed.{signed, within}
 use Rattle.keys.specs.declared.signature.Signature.{Signature}

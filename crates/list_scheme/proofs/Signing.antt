@@ -1,13 +1,13 @@
 -- Signatures beside members. Assumes nothing.
 use mathlib.Core.Path.{_≡_, refl, sym, ap, _∙_}
 use mathlib.Core.Bool.{Bool, true, false, cond, _&&_}
-use mathlib.Core.List.{List, [], _∷_, _++_, map}
-use Prim.Native.Nat.{ℕ, zero, suc, _+_, _-_, _<_, _≤_, min}
+use mathlib.Core.List.{List, [], _∷_, _++_}
+use Prim.Native.Nat.{ℕ, _+_, _-_, _<_, _≤_, min}
 use native.Mathlib.Omega.{arith}
 use lib.Dec.{eqb, leb}
 use lib.ListN.{length, getD, take, drop, set}
-use Rattle.std.proofs.shelf.Lists.{length-map, length-take, length-take-le, drop-more, drop-all, take-all, take-more, take-more-set, getD-map, getD-take}
-use Rattle.std.proofs.shelf.Tests.{eqb-true, leb-true, and-parts, ne-eqb, eq-eqb, le-ltb}
+use Rattle.std.proofs.shelf.Lists.{length-map, length-take, length-take-le, drop-more, drop-all, take-more, take-more-set, getD-map, getD-take}
+use Rattle.std.proofs.shelf.Tests.{eqb-true, and-parts, ne-eqb, eq-eqb, le-ltb}
 use Rattle.keys.specs.Meaning.{KeyMeaning}
 use Rattle.keys.specs.Signed.{signed}
 use Rattle.keys.specs.declared.signature.Signature.{Signature}

@@ -1,11 +1,11 @@
 -- The list scheme is sound as a verifier. Assumes nothing.
-use mathlib.Core.Path.{_≡_, refl, sym, ap, _∙_}
+use mathlib.Core.Path.{_≡_, ap, _∙_}
 use mathlib.Core.Bool.{Bool, true, false, cond}
-use mathlib.Core.List.{List, [], _∷_}
+use mathlib.Core.List.{List, _∷_}
 use Prim.Native.Nat.{ℕ, zero, suc, _+_, _*_, _≤_, min}
 use native.Mathlib.Omega.{arith}
 use lib.Dec.{eqb, ltb}
-use lib.ListN.{length, take, drop, length-take}
+use lib.ListN.{length, take, drop}
 use Rattle.std.specs.declared.result.Result.{Result}
 use Rattle.std.specs.declared.result.Result.the-variants.{Ok, Err}
 use Rattle.std.proofs.shelf.Lists.{length-map, length-take-le}
@@ -13,7 +13,6 @@ use Rattle.refusals.specs.Limits.{max-members}
 use Rattle.refusals.specs.Results.{mapOk}
 use Rattle.refusals.specs.declared.fault.BitmapFault.{BitmapFault}
 use Rattle.refusals.specs.declared.fault.CertificateFault.{CertificateFault}
-use Rattle.refusals.specs.declared.fault.FaultKind.{FaultKind}
 use Rattle.refusals.specs.declared.fault.FaultKind.the-variants.{EndOfBuffer, InvalidLength, Invalid, ExtraData}
 use Rattle.refusals.specs.declared.fault.Layer.{Layer}
 use Rattle.refusals.specs.declared.fault.Layer.the-variants.{Bitmap, Signatures, Certificate, Bundle}
@@ -28,7 +27,7 @@ use Rattle.rolls.specs.Bitmap as bitmaps
 use Rattle.rolls.specs.Roll.{first-keys}
 use Rattle.rolls.specs.Signers.{written-size}
 use Rattle.rolls.specs.declared.faults.Faults.{Faults}
-use Rattle.schemes.specs.Judging.{Parts, Sound}
+use Rattle.schemes.specs.Judging.{Sound}
 use Rattle.list_scheme.specs.Accepted.{list-judging}
 use Rattle.list_scheme.specs.Reading.{fault, signatures, finished, misread, listed, signed-by, read-list}
 

@@ -3,7 +3,6 @@ use Prim.Native.Nat.{ℕ, _+_, _-_, _^_, min}
 use Rattle.refusals.specs.declared.fault.BitmapFault.{BitmapFault}
 use Rattle.refusals.specs.declared.fault.CertificateFault.{CertificateFault}
 use Rattle.refusals.specs.declared.fault.BundleFault.{BundleFault}
-use Rattle.refusals.specs.declared.fault.Layer.{Layer}
 use Rattle.refusals.specs.declared.fault.Layer.the-variants.{Bitmap}
 
 -- a certificate begins with its bitmap: the layer is set, the place stays

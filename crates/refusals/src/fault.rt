@@ -1,6 +1,6 @@
 // Faults of bytes: of a bitmap, of a certificate, of a bundle. Each is carried into the next by `From`.
 ghost use mathlib.Core.Path.{_≡_};
-ghost use Prim.Native.Nat.{ℕ, _+_, _-_, _^_, _<_, _≤_, min};
+ghost use Prim.Native.Nat.{_-_, _<_};
 ghost use Rattle.refusals.specs.Faults.{layered, raised};
 
 #[derive(Clone, Copy, PartialEq, Eq)]

@@ -1,7 +1,6 @@
 // Why a call is refused: a number, and one or two values.
 ghost use mathlib.Core.Path.{_≡_};
-ghost use mathlib.Core.List.{List, [], _∷_};
-ghost use Prim.Native.Nat.{ℕ};
+ghost use mathlib.Core.List.{[], _∷_};
 ghost use Rattle.refusals.specs.Numbers.{number as numberOf, values as valuesOf, refused, listed, kind-number, layer-number};
 use crate::fault::BundleFault;
 use crate::fault::CertificateFault;

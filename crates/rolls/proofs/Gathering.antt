@@ -1,21 +1,18 @@
 -- The front of a list of members, gathered. Assumes nothing.
 use mathlib.Core.Path.{_≡_, refl, sym, ap, subst, _∙_}
-use mathlib.Core.Bool.{Bool, true, false, not, _||_, _&&_}
-use mathlib.Core.Logic.{⊎-elim}
-use mathlib.Core.List.{List, [], _∷_, _++_}
+use mathlib.Core.Bool.{true, false, _||_}
+use mathlib.Core.List.{List}
 use Prim.Native.Nat.{ℕ, _+_, _*_, _%_, _^_, _<_, _≤_}
 use native.Mathlib.Omega.{arith}
 use borrow.Author.Count.{below-more}
 use lib.Bits.{bitOr}
-use lib.Dec.{eqb, ltb}
+use lib.Dec.{eqb}
 use lib.ListN.{length, getD, take}
 use Rattle.std.proofs.shelf.Bits.{one-shl, pow-pos}
 use Rattle.std.proofs.shelf.Lists.{take-more, take-all}
 use Rattle.std.proofs.shelf.Tests.{lt-ltb}
-use Rattle.refusals.specs.declared.refusal.Refusal.{Refusal}
-use Rattle.refusals.specs.declared.refusal.Refusal.the-variants.{UnknownSigner, DuplicateSigner}
 use Rattle.rolls.specs.Bitmap.{has, among, members-below}
-use Rattle.rolls.specs.Gathered.{fresh, Gathered, Unfit, unknown, twice}
+use Rattle.rolls.specs.Gathered.{fresh, Gathered}
 use Rattle.rolls.proofs.BitLaws.{has-zero, has-set, set-below, among-push}
 use Rattle.rolls.proofs.MemberLaws.{members-none, count-set}
 

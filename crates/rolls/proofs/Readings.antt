@@ -1,10 +1,10 @@
 -- The reading of a bitmap: what is written is read again, and what is read is the one writing. Assumes nothing.
 use mathlib.Core.Path.{_≡_, refl, sym, ap, subst, _∙_}
 use mathlib.Core.Bool.{Bool, true, false, cond}
-use mathlib.Core.Logic.{_⊎_, inl, inr, ⊎-elim}
+use mathlib.Core.Logic.{_⊎_, inl, inr}
 use mathlib.Core.List.{List, [], _∷_, _++_}
 use Prim.Native.Nat.{ℕ, zero, suc, _+_, _-_, _*_, _/_, _%_, _^_, _<_, _≤_, min}
-use native.Mathlib.Nat.{div-eq-of-lt, pow-suc, pow-le-pow-right, add-comm}
+use native.Mathlib.Nat.{div-eq-of-lt, pow-suc, pow-le-pow-right}
 use native.Mathlib.Omega.{arith}
 use lib.Dec.{eqb, ltb, lit<}
 use lib.Seq.{take-append-add}
@@ -16,8 +16,8 @@ use Rattle.std.specs.declared.option.Option.{Option}
 use Rattle.std.specs.declared.option.Option.the-variants.{None, Some}
 use Rattle.std.specs.shelf.Digits.{number}
 use Rattle.std.proofs.shelf.Bits.{pow-pos, pow-add, le-div}
-use Rattle.std.proofs.shelf.Lists.{take-append-drop, length-append, length-take-le, length-drop, take-at, take-all, append-nil, drop-replicate, getD-take, getD-drop}
-use Rattle.std.proofs.shelf.Tests.{cases-lt, cases-bool, lt-ltb, le-ltb, ltb-true, ltb-false, eq-eqb, ne-eqb}
+use Rattle.std.proofs.shelf.Lists.{take-append-drop, length-append, length-take-le, length-drop, take-at, take-all, append-nil, drop-replicate, getD-drop}
+use Rattle.std.proofs.shelf.Tests.{cases-lt, lt-ltb, le-ltb, ltb-true, ltb-false, eq-eqb, ne-eqb}
 use Rattle.refusals.specs.Faults.{layered}
 use Rattle.refusals.specs.declared.fault.BitmapFault.{BitmapFault}
 use Rattle.refusals.specs.declared.fault.CertificateFault.{CertificateFault}

@@ -1,16 +1,13 @@
 -- The writing of a bitmap. Assumes nothing.
-use mathlib.Core.Path.{_≡_, refl, sym, ap, subst, _∙_}
-use mathlib.Core.Bool.{Bool, true, false, cond}
-use mathlib.Core.Logic.{_⊎_, inl, inr, ⊎-elim}
+use mathlib.Core.Path.{_≡_, refl, ap, _∙_}
 use mathlib.Core.List.{List, [], _∷_, _++_}
-use Prim.Native.Nat.{ℕ, zero, suc, _+_, _-_, _*_, _/_, _%_, _^_, _<_, _≤_, min}
-use native.Mathlib.Nat.{div-one, div-div-eq-div-mul, sub-zero}
+use Prim.Native.Nat.{ℕ, zero, suc, _+_, _-_, _/_, _%_, _≤_}
+use native.Mathlib.Nat.{div-one, div-div-eq-div-mul}
 use native.Mathlib.Omega.{arith}
-use lib.Dec.{eqb, ltb}
 use lib.Seq.{take-append-add}
-use lib.ListN.{length, getD, take, drop, replicate}
-use Rattle.std.proofs.shelf.Lists.{length-append, take-at, take-append-le, take-all}
-use Rattle.keys.specs.Bytes.{big-endian, little-endian, little-number, overlaid}
+use lib.ListN.{length, getD, take}
+use Rattle.std.proofs.shelf.Lists.{length-append}
+use Rattle.keys.specs.Bytes.{big-endian, little-endian, overlaid}
 use Rattle.rolls.specs.Bitmap.{Bitmap, bitmap-size, bitmap-written}
 use Rattle.rolls.specs.Signers.{written-size}
 

@@ -1,7 +1,6 @@
 // What checks certificates.
 ghost use mathlib.Core.Path.{_≡_};
 ghost use mathlib.Core.List.{List};
-ghost use Prim.Native.Nat.{ℕ};
 ghost use lib.ListN.{length};
 ghost use Rattle.schemes.specs.Judging.{Judging, Parts, Seen, Sound, At, MessageAt, verified};
 ghost use Rattle.refusals.specs.Results.{mapOk};

@@ -92,6 +92,7 @@ pub impl Namespace for EditionNamespace as EditionNamespaceKind {
     }
 
     fn as_slice(&self) -> &[u8] {
-        &self.bytes[0..self.len]
+        let len = self.len;
+        &self.bytes[0..len]
     }
 }

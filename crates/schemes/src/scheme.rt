@@ -1,13 +1,10 @@
 // What can also sign, and gather signatures into certificates.
 ghost use mathlib.Core.Path.{_≡_};
-ghost use mathlib.Core.Bool.{true};
-ghost use mathlib.Core.List.{List, map};
+ghost use mathlib.Core.List.{map};
 ghost use Prim.Native.Nat.{ℕ};
-ghost use lib.ListN.{length};
 ghost use Rattle.std.specs.declared.option.Option.{Option};
 ghost use Rattle.std.specs.declared.result.Result.the-variants.{Err};
 ghost use Rattle.refusals.specs.Results.{mapOk};
-ghost use Rattle.schemes.specs.Judging.{Judging};
 ghost use Rattle.schemes.specs.Meaning.{Meaning, Laws, Written, Verified, mark, assembly, attested};
 ghost use Rattle.schemes.specs.Signing.{Signed};
 use crate::attestation::Attestation;

@@ -1,9 +1,8 @@
 // Subjects, and the namespaces that they are signed under.
 ghost use mathlib.Core.Path.{_≡_};
-ghost use mathlib.Core.List.{List, _++_};
-ghost use Prim.Native.Nat.{ℕ, _<_, _≤_};
+ghost use mathlib.Core.List.{_++_};
+ghost use Prim.Native.Nat.{_<_};
 ghost use denote.Ref.{now};
-ghost use lib.ListN.{length, take};
 ghost use Rattle.keys.specs.Bytes.{big-endian};
 ghost use Rattle.schemes.specs.Subjects.{Said, edition-message};
 use crate::namespace::EditionNamespace;

@@ -1,4 +1,4 @@
-use mathlib.Core.Path.{_≡_, refl, sym, ap, _∙_, subst}
+use mathlib.Core.Path.{_≡_, sym, ap, _∙_, subst}
 use mathlib.Core.List.{map}
 use Rattle.bundle.specs.Layout.{bundle}
 use Rattle.bundle.specs.Places.{held-by}

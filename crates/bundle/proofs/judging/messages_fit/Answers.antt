@@ -1,4 +1,3 @@
-use mathlib.Core.Path.{refl}
 use native.Mathlib.Omega.{arith}
 use Rattle.bundle.proofs.Looking.{long-found, long-passed, long-none}
 use Rattle.bundle.proofs.judging.messages_fit.Needs as need

@@ -1,5 +1,3 @@
-use mathlib.Core.Path.{_≡_, refl, sym, ap, _∙_}
-use native.Mathlib.Omega.{arith}
 use Rattle.std.proofs.shelf.Results.{err-from-errBy}
 use Rattle.bundle.proofs.Fields.{entry-first, entry-second, entry-whole}
 use Rattle.bundle.proofs.reader.entry.Needs as need

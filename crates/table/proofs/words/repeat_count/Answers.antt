@@ -1,4 +1,3 @@
-use borrow.Author.Needs.{needs}
 use Rattle.table.proofs.Laws.{plain}
 use Rattle.table.proofs.words.repeat_count.Needs as need
 

@@ -1,5 +1,4 @@
-use mathlib.Core.Path.{refl, ap, sym}
-use Rattle.schemes.specs.Judging.{Seen}
+use mathlib.Core.Path.{sym}
 use Rattle.bundle.proofs.Looking.{seen-at, seen-past}
 use Rattle.bundle.proofs.entries.BundleEntriesReader.entry.Needs as need
 

@@ -1,15 +1,14 @@
-use borrow.Author.Needs.{needs}
-use mathlib.Core.Path.{_≡_, refl, sym, ap, _∙_}
+use mathlib.Core.Path.{_≡_, sym, ap, _∙_}
 use native.Mathlib.Omega.{arith}
 use mathlib.Core.List.{List}
 use Prim.Native.Nat.{ℕ, _+_, _*_, _≤_}
-use lib.ListN.{length, getD, drop, set}
-use Rattle.std.specs.declared.result.Result.the-variants.{Ok, Err}
+use lib.ListN.{length, getD, drop}
+use Rattle.std.specs.declared.result.Result.the-variants.{Err}
 use Rattle.std.proofs.shelf.Lists.{length-set}
 use Rattle.std.proofs.shelf.Results.{err-from-errBy}
 use Rattle.bundle.specs.Layout.{bundle, prefix, entries}
 use Rattle.bundle.proofs.Fields.{prefix-at}
-use Rattle.bundle.proofs.Reading.{Ongoing, ongoing-none, ongoing-more, ongoing-fault, ongoing-extra, ongoing-all, bundle-short, bundle-large, bundle-entries}
+use Rattle.bundle.proofs.Reading.{ongoing-more, ongoing-fault, ongoing-extra, ongoing-all, bundle-short, bundle-large, bundle-entries}
 use Rattle.bundle.proofs.Bounds.{bundle-back}
 use Rattle.bundle.proofs.layout.Bundle.read.Needs as need
 

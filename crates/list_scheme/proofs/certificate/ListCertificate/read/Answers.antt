@@ -1,12 +1,11 @@
-use mathlib.Core.Path.{_≡_, refl, sym, ap, _∙_}
+use mathlib.Core.Path.{sym, ap, _∙_}
 use mathlib.Core.Logic.{_≢_}
 use native.Mathlib.Omega.{arith}
-use Prim.Native.Nat.{_+_, _*_}
-use lib.ListN.{length, drop}
+use lib.ListN.{length}
 use Rattle.std.proofs.shelf.Results.{err-from-errBy}
-use Rattle.std.specs.declared.result.Result.the-variants.{Ok, Err}
+use Rattle.std.specs.declared.result.Result.the-variants.{Err}
 use Rattle.rolls.specs.Bitmap.{members}
-use Rattle.rolls.specs.Signers.{bitmap, written-size}
+use Rattle.rolls.specs.Signers.{bitmap}
 use Rattle.list_scheme.proofs.FieldByField.{bitmap-within, reads-no-bitmap, reads-nobody, behind, behind-fault, behind-all, finished-differ, finished-extra, finished-whole}
 use Rattle.list_scheme.proofs.certificate.ListCertificate.read.Needs as need
 

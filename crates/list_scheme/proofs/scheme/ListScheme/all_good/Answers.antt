@@ -1,17 +1,16 @@
 use borrow.Author.Needs.{needs}
-use mathlib.Core.Path.{_≡_, refl, sym, ap, _∙_}
+use mathlib.Core.Path.{_≡_, sym, ap, _∙_}
 use mathlib.Core.Bool.{true, false}
-use mathlib.Core.List.{List, []}
+use mathlib.Core.List.{[]}
 use native.Mathlib.Omega.{arith}
-use Prim.Native.Nat.{ℕ, _+_, _<_, _≤_}
-use lib.ListN.{length, getD, drop}
-use Rattle.keys.specs.Signed.{signed}
-use Rattle.rolls.specs.Bitmap.{has, members-below}
+use Prim.Native.Nat.{_<_}
+use lib.ListN.{getD, drop}
+use Rattle.rolls.specs.Bitmap.{members-below}
 use Rattle.rolls.specs.Roll.{first-keys}
 use Rattle.rolls.proofs.MemberLaws.{count-le}
 use Rattle.list_scheme.specs.Accepted.{each-good}
 use Rattle.list_scheme.specs.Certificate.{first-signed}
-use Rattle.list_scheme.proofs.Signing.{Going, going-out, going-in, going-bad, going-all, going-place, signed-at}
+use Rattle.list_scheme.proofs.Signing.{going-out, going-in, going-bad, going-all, going-place, signed-at}
 use Rattle.list_scheme.proofs.scheme.ListScheme.all_good.Needs as need
 use Rattle.list_scheme.proofs.scheme.ListScheme.all_good.Needs.{then-contains·in-Some·else-not-verify, else-contains}
 

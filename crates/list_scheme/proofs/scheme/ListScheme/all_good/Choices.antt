@@ -1,4 +1,3 @@
-use mathlib.Core.Path.{_≡_}
 use Rattle.rolls.specs.Roll.{first-keys}
 use Rattle.list_scheme.specs.Certificate.{first-signed}
 use Rattle.list_scheme.proofs.Signing.{Going}

@@ -1,7 +1,6 @@
-use mathlib.Core.Path.{_≡_, refl, sym, ap, _∙_}
+use mathlib.Core.Path.{sym, ap, _∙_}
 use native.Mathlib.Omega.{arith}
 use lib.Dec.{leb}
-use lib.ListN.{length}
 use Rattle.rolls.specs.Quorum.{quorum}
 use Rattle.rolls.specs.Roll.{first-keys}
 use Rattle.list_scheme.specs.Certificate.{parts}

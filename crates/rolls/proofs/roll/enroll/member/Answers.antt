@@ -1,6 +1,5 @@
-use mathlib.Core.Path.{_≡_, sym}
-use mathlib.Core.Bool.{true}
-use mathlib.Core.Logic.{_⊎_, inl, inr}
+use mathlib.Core.Path.{sym}
+use mathlib.Core.Logic.{inl, inr}
 use native.Mathlib.Omega.{arith}
 use Rattle.rolls.proofs.Enrolling.{not-above, chosen}
 use Rattle.rolls.proofs.roll.enroll.member.Needs as need

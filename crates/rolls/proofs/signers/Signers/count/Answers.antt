@@ -1,7 +1,6 @@
-use mathlib.Core.Path.{_≡_, sym, ap, _∙_}
+use mathlib.Core.Path.{sym, ap, _∙_}
 use native.Mathlib.Omega.{arith}
-use borrow.Author.Needs.{needs}
-use Prim.Native.Nat.{_+_, _<_, _≤_, _^_}
+use Prim.Native.Nat.{_+_}
 use Rattle.rolls.proofs.MemberLaws.{count-in, count-out, count-le}
 use Rattle.rolls.proofs.signers.Signers.count.Needs as need
 use Rattle.rolls.proofs.signers.Signers.count.Needs.{then-bit, else-bit}

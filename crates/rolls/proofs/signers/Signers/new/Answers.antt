@@ -1,5 +1,4 @@
 use mathlib.Core.Path.{refl, sym, _∙_}
-use native.Mathlib.Omega.{arith}
 use lib.ListN.{getD}
 use Rattle.rolls.specs.Gathered.{unknown, twice}
 use Rattle.rolls.proofs.Gathering.{front-none, front-more, front-all}

@@ -1,8 +1,8 @@
 use native.Mathlib.Omega.{arith}
 use borrow.Author.Needs.{needs}
-use mathlib.Core.Path.{_≡_, refl, sym, ap, _∙_}
-use mathlib.Core.List.{List, [], _∷_, _++_}
-use lib.ListN.{length, replicate, take}
+use mathlib.Core.Path.{_≡_, sym, ap, _∙_}
+use mathlib.Core.List.{_++_}
+use lib.ListN.{length, replicate}
 use Prim.Native.Nat.{ℕ, _+_}
 use Rattle.keys.proofs.Buffers.{put-two}
 use Rattle.std.proofs.shelf.Lists.{take-all}
