@@ -1,4 +1,6 @@
 // Bundles of certificates: reading, judging, and the text of verdicts.
+#![tactic(auto)]
+
 mod answer;
 mod entries;
 mod held;

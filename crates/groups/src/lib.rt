@@ -1,4 +1,6 @@
 // Weight sources.
+#![tactic(auto)]
+
 mod weights;
 
 pub use weights::{Counting, Weight, Weights};

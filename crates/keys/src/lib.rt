@@ -1,4 +1,6 @@
 // Payloads, and key checks behind one interface.
+#![tactic(auto)]
+
 mod batch;
 mod buffer;
 mod check;

@@ -1,4 +1,6 @@
 // The list scheme: a certificate lists the signature of each member.
+#![tactic(auto)]
+
 mod certificate;
 mod made;
 mod reading;

@@ -1,4 +1,6 @@
 // The refusals of every call, the faults of bytes, and the limits.
+#![tactic(auto)]
+
 mod fault;
 mod limits;
 mod refusal;

@@ -1,4 +1,6 @@
 // Roll W, the example: the residue keys 2, 3, 5 and 7, fewer than a third faulty, no namespace.
+#![tactic(auto)]
+
 ghost use Rattle.std.specs.Prelude.{◌≡◌, [], take, MatchResult};
 ghost use Rattle.keys.specs.Bytes.{big_endian};
 ghost use Rattle.rolls.specs.Roll.{first_keys};

@@ -1,4 +1,6 @@
 // Rolls of members, sets of signers, and quorums.
+#![tactic(auto)]
+
 mod faults;
 mod roll;
 mod signers;

@@ -1,4 +1,6 @@
 // Subjects, certificates and schemes of signatures, and what they mean.
+#![tactic(auto)]
+
 mod attestation;
 mod certificate;
 mod namespace;

@@ -1,4 +1,6 @@
 // Judges bundles that are written as lines of text, each as the program verdicts judges its input.
+#![tactic(auto)]
+
 mod words;
 
 use crate::words::LineBytes;

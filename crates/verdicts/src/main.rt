@@ -1,4 +1,6 @@
 // Judges the bundle of standard input with roll W's list scheme, and prints the verdicts.
+#![tactic(auto)]
+
 ghost use Rattle.std.specs.Prelude.{◌≤◌, length, IfOk};
 
 use bundle::{Answer, RefusedLine, Verdict};
