@@ -80,7 +80,7 @@ impl KeyCheck for ResidueKey {
     }
 
     fn verify(&self, payload: &[u8], signature: &[u8]) -> bool {
-        signature == self.product(payload)
+        signature == self.product(payload).as_slice()
     }
 
     fn sign(&self, payload: &[u8]) -> Signature {

@@ -25,10 +25,10 @@ pub returns : goal.returns
 returns c =
     let bs = c.args.bytes.now in
     let at = c.args.at in
-    let long = c.from-be-bytes-long.result in
+    let long = c.from_be_bytes-long.result in
     let d = length-drop at bs in
     let p = prefix_at bs at (omega arith) in
-    let q : prefix (drop at bs) ≡ long = p ∙ sym c.from-be-bytes-long.ensures in
+    let q : prefix (drop at bs) ≡ long = p ∙ sym c.from_be_bytes-long.ensures in
     let l : at + 2 + long - (at + 2) ≡ long = omega arith in (
       field-whole c.args.limit at (drop at bs) (omega arith) (omega arith) (omega arith)
           ∙ ap (λ (z : _). Ok z) (ap (λ n. take n (drop 2 (drop at bs))) (q ∙ sym l) ∙ ap (take (at + 2 + long - (at + 2))) (drop-drop 2 at bs)),

@@ -7,11 +7,11 @@ use Rattle.keys.proofs.residue.hash.Goals as goal
 pub loop-byte-init : goal.loop-byte-init
 loop-byte-init c = hash_none c.args.bytes.now
 
-pub overflow-mul-hash : goal.overflow-mul-hash
-overflow-mul-hash c = omega (arith, hash_below (take c.loop-byte.byte-index c.args.bytes.now))
+pub overflow_mul-hash : goal.overflow_mul-hash
+overflow_mul-hash c = omega (arith, hash_below (take c.loop-byte.byte-index c.args.bytes.now))
 
-pub overflow-add-hash : goal.overflow-add-hash
-overflow-add-hash c = omega (arith, hash_below (take c.loop-byte.byte-index c.args.bytes.now))
+pub overflow_add-hash : goal.overflow_add-hash
+overflow_add-hash c = omega (arith, hash_below (take c.loop-byte.byte-index c.args.bytes.now))
 
 pub loop-byte-preserved : goal.loop-byte-preserved
 loop-byte-preserved c = hash_more c.args.bytes.now c.loop-byte.byte-index c.loop-byte.hash (omega arith) c.loop-byte.invariant

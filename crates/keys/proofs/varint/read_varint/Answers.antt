@@ -4,14 +4,14 @@ use Rattle.keys.specs.declared.varint.VarintFault.TheVariants.{EndOfBuffer, Inva
 use Rattle.keys.proofs.VarintReads.{weighs, product_fits, reading_more, reading_closes, reading_stops, reading_ends, back_from_value, shortest_from_value}
 use Rattle.keys.proofs.varint.read_varint.Goals as goal
 
-pub overflow-mul-value : goal.overflow-mul-value
-overflow-mul-value c = omega (arith, product_fits c.loop-place.place c.loop-place.weight (get_or c.args.bytes.now c.loop-place.place 0) c.loop-place.invariant.2 c.loop-place.invariant.4)
+pub overflow_mul-value : goal.overflow_mul-value
+overflow_mul-value c = omega (arith, product_fits c.loop-place.place c.loop-place.weight (get_or c.args.bytes.now c.loop-place.place 0) c.loop-place.invariant.2 c.loop-place.invariant.4)
 
-pub overflow-add-value : goal.overflow-add-value
-overflow-add-value c = omega (arith, weighs c.loop-place.place c.loop-place.weight c.loop-place.invariant.2 c.loop-place.invariant.4, product_fits c.loop-place.place c.loop-place.weight (get_or c.args.bytes.now c.loop-place.place 0) c.loop-place.invariant.2 c.loop-place.invariant.4)
+pub overflow_add-value : goal.overflow_add-value
+overflow_add-value c = omega (arith, weighs c.loop-place.place c.loop-place.weight c.loop-place.invariant.2 c.loop-place.invariant.4, product_fits c.loop-place.place c.loop-place.weight (get_or c.args.bytes.now c.loop-place.place 0) c.loop-place.invariant.2 c.loop-place.invariant.4)
 
-pub overflow-mul-weight : goal.overflow-mul-weight
-overflow-mul-weight c = omega (arith, weighs c.loop-place.place c.loop-place.weight c.loop-place.invariant.2 c.loop-place.invariant.4)
+pub overflow_mul-weight : goal.overflow_mul-weight
+overflow_mul-weight c = omega (arith, weighs c.loop-place.place c.loop-place.weight c.loop-place.invariant.2 c.loop-place.invariant.4)
 
 pub loop-place-preserved : goal.loop-place-preserved
 loop-place-preserved c =
@@ -24,8 +24,8 @@ returns-then-byte-lt128 c =
     reading_closes c.args.bytes.now c.loop-place.place _ c.loop-place.value c.loop-place.weight _ (omega arith) refl (omega arith) c.loop-place.invariant c.judged.ensures in
     record { value = e; reads_back = back_from_value _ _ e; shortest = shortest_from_value _ _ e }
 
-pub returns-then-place-eq-MAX-GROUPS : goal.returns-then-place-eq-MAX-GROUPS
-returns-then-place-eq-MAX-GROUPS c =
+pub returns-then-place-eq-MAX_GROUPS : goal.returns-then-place-eq-MAX_GROUPS
+returns-then-place-eq-MAX_GROUPS c =
     let e : Err Invalid ≡ read_varint c.args.bytes.now =
     reading_stops c.args.bytes.now c.loop-place.place (get_or c.args.bytes.now c.loop-place.place 0) c.loop-place.value c.loop-place.weight
     (omega arith) refl (omega arith) (omega arith) (omega arith) c.loop-place.invariant in

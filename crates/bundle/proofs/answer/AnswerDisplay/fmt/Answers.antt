@@ -6,4 +6,4 @@ pub returns-in-Ok-clause-writes : goal.returns-in-Ok-clause-writes
 returns-in-Ok-clause-writes g c plain ok =
     has_written_of_eq g.W.Write.write_str_gives _ _ _ _
     (answer_lines c.args.self.now.judged c.args.self.now.verdicts.now c.in-Ok.count c.min.result c.in-Ok.is c.min.ensures)
-    (c.write-lines.ensures plain ok)
+    (c.write_lines.ensures plain ok)

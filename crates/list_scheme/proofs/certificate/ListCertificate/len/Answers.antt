@@ -2,12 +2,12 @@ use Rattle.std.proofs.Common.{arith}
 use Rattle.list_scheme.proofs.Signing.{signed-length}
 use Rattle.list_scheme.proofs.certificate.ListCertificate.len.Goals as goal
 
-pub returns-then-self-lt-MAX-MEMBERS : goal.returns-then-self-lt-MAX-MEMBERS
-returns-then-self-lt-MAX-MEMBERS c =
+pub returns-then-self-lt-MAX_MEMBERS : goal.returns-then-self-lt-MAX_MEMBERS
+returns-then-self-lt-MAX_MEMBERS c =
     let l = c.args.self.now.long in
     omega (arith, signed-length c.args.self.now.count c.args.self.now.signatures)
 
-pub returns-else-self-lt-MAX-MEMBERS : goal.returns-else-self-lt-MAX-MEMBERS
-returns-else-self-lt-MAX-MEMBERS c =
+pub returns-else-self-lt-MAX_MEMBERS : goal.returns-else-self-lt-MAX_MEMBERS
+returns-else-self-lt-MAX_MEMBERS c =
     let l = c.args.self.now.long in
     omega (arith, signed-length c.args.self.now.count c.args.self.now.signatures)

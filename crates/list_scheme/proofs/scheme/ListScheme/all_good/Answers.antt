@@ -12,13 +12,13 @@ pub bounds-certificate-at : goal.bounds-certificate-at
 bounds-certificate-at g c =
     omega (arith, count_le c.loop-member.member c.args.certificate.now.signers.bits, c.loop-member.invariant.0, c.args.self.now.roll.within)
 
-pub offset-bounds-certificate-at : goal.offset-bounds-certificate-at
-offset-bounds-certificate-at g c =
+pub offset_bounds-certificate-at : goal.offset_bounds-certificate-at
+offset_bounds-certificate-at g c =
     let k : c.loop-member.at < 64 = omega (arith, count_le c.loop-member.member c.args.certificate.now.signers.bits, c.loop-member.invariant.0, c.args.self.now.roll.within) in
     search rules
 
-pub overflow-add-at : goal.overflow-add-at
-overflow-add-at g c =
+pub overflow_add-at : goal.overflow_add-at
+overflow_add-at g c =
     let k : c.loop-member.at < 64 = omega (arith, count_le c.loop-member.member c.args.certificate.now.signers.bits, c.loop-member.invariant.0, c.args.self.now.roll.within) in
     search rules
 
@@ -33,7 +33,7 @@ returns-then-not-verify g c =
     let h : i < x.signers.len = omega (arith, c.requires.whole) in
     let t = sym c.contains.ensures ∙ c.if-contains.true in
     let p = going_place m keys c.args.payload.now x.signers.len x.signers.bits ss i at h t c.requires.paired c.loop-member.invariant in
-    let s : c.as-slice.result.now ≡ get_or ss at [] = c.as-slice.ensures ∙ sym (signed_at x.count at x.signatures _ p.0) in
+    let s : c.as_slice.result.now ≡ get_or ss at [] = c.as_slice.ensures ∙ sym (signed_at x.count at x.signatures _ p.0) in
     let v : m.good (get_or keys i []) c.args.payload.now (get_or ss at []) ≡ false =
     sym (c.verify.ensures ∙ (λ j. m.good (c.in-Some.ensures.1 j) c.args.payload.now (s j))) ∙ c.if-not-verify.true in
     going_bad m keys c.args.payload.now x.signers.len x.signers.bits ss i at h t c.requires.paired v c.loop-member.invariant
@@ -52,7 +52,7 @@ loop-member-preserved g c =
       | then-contains+in-Some+else-not-verify w ↦
           let t = sym c.contains.ensures ∙ w.if-contains.true in
           let p = going_place m keys c.args.payload.now x.signers.len x.signers.bits ss i at h t c.requires.paired c.loop-member.invariant in
-          let s : w.as-slice.result.now ≡ get_or ss at [] = w.as-slice.ensures ∙ sym (signed_at x.count at x.signatures _ p.0) in
+          let s : w.as_slice.result.now ≡ get_or ss at [] = w.as_slice.ensures ∙ sym (signed_at x.count at x.signatures _ p.0) in
           let v : m.good (get_or keys i []) c.args.payload.now (get_or ss at []) ≡ true =
           sym (w.verify.ensures ∙ (λ j. m.good (w.in-Some.ensures.1 j) c.args.payload.now (s j))) ∙ w.if-not-verify.false in
           let n = going_in m keys c.args.payload.now x.signers.len x.signers.bits ss i at h t c.requires.paired v c.loop-member.invariant in

@@ -8,6 +8,6 @@ returns g c =
     let read = c.read.ensures ∙ ap (λ w. read_list w c.args.bound c.args.bytes.now) c.width.ensures in
     record {
       read = read;
-      written = ok_canonical g.K.KeyCheck.meaning.width c.args.bound c.args.bytes.now (λ i. (c.type-inv.bytes i).fits) c.read.result read;
+      written = ok_canonical g.K.KeyCheck.meaning.width c.args.bound c.args.bytes.now (λ i. (c.type_inv.bytes i).fits) c.read.result read;
       reads_back = λ p h e. read ∙ ap (read_list g.K.KeyCheck.meaning.width c.args.bound) e ∙ reads_back g.K.KeyCheck.meaning.width c.args.bound p h;
     }

@@ -3,8 +3,8 @@ use Rattle.rolls.proofs.MemberLaws.{count_in, count_out, count_le}
 use Rattle.rolls.proofs.signers.Signers.count.Goals as goal
 use Rattle.rolls.proofs.signers.Signers.count.Goals.{then-bit, else-bit}
 
-pub overflow-add-count : goal.overflow-add-count
-overflow-add-count c =
+pub overflow_add-count : goal.overflow_add-count
+overflow_add-count c =
     let h = count_le c.loop-index.index c.args.self.now.bits in
     let l = c.args.self.now.within in omega arith
 

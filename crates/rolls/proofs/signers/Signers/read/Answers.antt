@@ -19,8 +19,8 @@ returns-then-bytes-lt8 c =
 
 pub returns-then-len-min : goal.returns-then-len-min
 returns-then-len-min c =
-    let l : c.from-be-bytes-len.result ≡ number_from_digits 256 (take 8 c.args.bytes.now) =
-    c.from-be-bytes-len.ensures ∙ sym (big_front c.args.bytes.now c.if-bytes-lt8.false) in
+    let l : c.from_be_bytes-len.result ≡ number_from_digits 256 (take 8 c.args.bytes.now) =
+    c.from_be_bytes-len.ensures ∙ sym (big_front c.args.bytes.now c.if-bytes-lt8.false) in
     let e = sym (read_long c.args.limit c.args.bytes.now c.if-bytes-lt8.false (omega (arith, c.min.ensures, c.if-len-min.true))) in
     record {
       read = e;
@@ -31,13 +31,13 @@ returns-then-len-min c =
 
 pub returns : goal.returns
 returns c =
-    let l : c.from-be-bytes-len.result ≡ number_from_digits 256 (take 8 c.args.bytes.now) =
-    c.from-be-bytes-len.ensures ∙ sym (big_front c.args.bytes.now c.if-bytes-lt8.false) in
+    let l : c.from_be_bytes-len.result ≡ number_from_digits 256 (take 8 c.args.bytes.now) =
+    c.from_be_bytes-len.ensures ∙ sym (big_front c.args.bytes.now c.if-bytes-lt8.false) in
     let e = c.read_bits.ensures
     ∙ ap (λ n. read_bits n (take (length c.args.bytes.now - 8) (drop 8 c.args.bytes.now))) l
     ∙ ap (read_bits (number_from_digits 256 (take 8 c.args.bytes.now))) (take_rest c.args.bytes.now 8)
     ∙ sym (read_front c.args.limit c.args.bytes.now c.if-bytes-lt8.false (omega (arith, c.min.ensures, c.if-len-min.false))) in
-    let w = ok_written c.args.limit c.args.bytes.now c.read_bits.result (λ i. (c.type-inv.bytes i).fits) e in
+    let w = ok_written c.args.limit c.args.bytes.now c.read_bits.result (λ i. (c.type_inv.bytes i).fits) e in
     record {
       read = e;
       written = w;
