@@ -6,6 +6,5 @@ mod made;
 mod reading;
 mod scheme;
 
-use crate::scheme::Certificate;
 pub use certificate::ListCertificate;
 pub use scheme::ListScheme;

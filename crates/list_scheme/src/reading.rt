@@ -5,7 +5,7 @@ ghost use Rattle.refusals.specs.Limits.{max_members};
 ghost use Rattle.refusals.specs.Results.{map_ok};
 ghost use Rattle.rolls.specs.Bitmap.{Bitmap};
 ghost use Rattle.list_scheme.specs.Certificate.{first_signed, parts};
-ghost use Rattle.list_scheme.specs.Reading.{signatures as signatures-of, fault as fault-of, misread as misread-of, listed, read_list};
+ghost use Rattle.list_scheme.specs.Reading.{signatures as signatures_of, fault as fault_of, misread as misread_of, listed, read_list};
 
 use crate::certificate::ListCertificate;
 use keys::{Signature, Varint, VarintFault, read_varint};
@@ -21,7 +21,7 @@ pub(crate) struct Found {
 }
 
 fn fault(kind: FaultKind, layer: Layer, place: usize) -> CertificateFault
-    ensures { result ≡ fault-of kind layer place }
+    ensures { result ≡ fault_of kind layer place }
 {
     CertificateFault { kind, layer, place }
 }
@@ -36,7 +36,7 @@ fn signatures(
     requires within { start ≤ length bytes.now }
     requires few { count ≤ 64 }
     requires narrow { width ≤ 64 }
-    ensures read { map_ok (λ f. first_signed f.count f.signatures) result ≡ signatures-of width count start (drop start bytes.now) }
+    ensures read { map_ok (λ f. first_signed f.count f.signatures) result ≡ signatures_of width count start (drop start bytes.now) }
     ensures end { IfOk result (λ f. (f.count ≡ count) × (f.end ≡ start + count * width)) }
 {
     let mut signatures = [Signature::new(&[]); MAX_MEMBERS];
@@ -58,7 +58,7 @@ fn signatures(
 
 // A count that could not be read, at a place.
 fn misread(varint: VarintFault, at: usize) -> CertificateFault
-    ensures { result ≡ misread-of varint at }
+    ensures { result ≡ misread_of varint at }
 {
     match varint {
         VarintFault::EndOfBuffer => fault(FaultKind::EndOfBuffer, Layer::Signatures, at),

@@ -6,7 +6,7 @@ ghost use Rattle.refusals.specs.Results.{map_ok};
 ghost use Rattle.schemes.specs.Judging.{Parts, named};
 ghost use Rattle.list_scheme.specs.Reading.{read_list};
 ghost use Rattle.list_scheme.specs.Writing.{list_written, Readable};
-ghost use Rattle.list_scheme.specs.Certificate.{parts as parts-of};
+ghost use Rattle.list_scheme.specs.Certificate.{parts as parts_of};
 ghost use Rattle.list_scheme.specs.Made.{Made};
 ghost use Rattle.list_scheme.specs.Soundness.{list_sound};
 
@@ -43,13 +43,13 @@ impl<K: KeyCheck, N: Namespace> ListScheme<K, N> {
 }
 
 impl Certificate for ListCertificate {
-    ghost parts = { parts-of };
+    ghost parts = { parts_of };
 }
 
 impl<K: KeyCheck, N: Namespace> ListScheme<K, N> {
     // Whether a certificate is for this roll: its length, as many signatures as members, a quorum.
     fn fits(&self, certificate: &ListCertificate) -> bool
-        ensures { result ≡ list_fits (first_keys K.KeyCheck.key self.now.roll.len self.now.roll.keys) self.now.faults (parts-of certificate.now) }
+        ensures { result ≡ list_fits (first_keys K.KeyCheck.key self.now.roll.len self.now.roll.keys) self.now.faults (parts_of certificate.now) }
     {
         let members = self.roll.len();
         if certificate.signers.len() != members {
@@ -65,8 +65,8 @@ impl<K: KeyCheck, N: Namespace> ListScheme<K, N> {
     // Whether each member's signature of a payload is good.
     fn all_good(&self, payload: &[u8], certificate: &ListCertificate) -> bool
         requires whole { certificate.now.signers.len ≡ self.now.roll.len }
-        requires paired { length (parts-of certificate.now).signatures ≡ length (named (parts-of certificate.now)) }
-        ensures { result ≡ each_good K.KeyCheck.meaning (first_keys K.KeyCheck.key self.now.roll.len self.now.roll.keys) payload.now (named (parts-of certificate.now)) (parts-of certificate.now).signatures }
+        requires paired { length (parts_of certificate.now).signatures ≡ length (named (parts_of certificate.now)) }
+        ensures { result ≡ each_good K.KeyCheck.meaning (first_keys K.KeyCheck.key self.now.roll.len self.now.roll.keys) payload.now (named (parts_of certificate.now)) (parts_of certificate.now).signatures }
     {
         let mut at = 0;
         for member in 0..self.roll.len() {
@@ -99,9 +99,9 @@ impl<K: KeyCheck, N: Namespace> Verifier for ListScheme<K, N> {
 
     // What is read is the writing of a certificate, and every certificate that can be read is read from its writing.
     fn read(&self, bytes: &[u8], bound: usize) -> Result<ListCertificate, CertificateFault>
-        ensures read { map_ok parts-of result ≡ read_list K.KeyCheck.meaning.width bound bytes.now }
-        ensures written { IfOk result (λ c. Readable K.KeyCheck.meaning.width bound (parts-of c) × (bytes.now ≡ list_written (parts-of c))) }
-        ensures reads_back { (p : Parts) → Readable K.KeyCheck.meaning.width bound p → bytes.now ≡ list_written p → map_ok parts-of result ≡ Ok p }
+        ensures read { map_ok parts_of result ≡ read_list K.KeyCheck.meaning.width bound bytes.now }
+        ensures written { IfOk result (λ c. Readable K.KeyCheck.meaning.width bound (parts_of c) × (bytes.now ≡ list_written (parts_of c))) }
+        ensures reads_back { (p : Parts) → Readable K.KeyCheck.meaning.width bound p → bytes.now ≡ list_written p → map_ok parts_of result ≡ Ok p }
     {
         ListCertificate::read(bytes, bound, K::width())
     }

@@ -12,7 +12,7 @@ loop-number-init g c plain = record { wrote = writes_in_calls_nil g.W.Write.writ
 pub loop-number-preserved : goal.loop-number-preserved
 loop-number-preserved g c plain =
     let before = c.loop-number.invariant plain in
-    let after = c.in_ok-writeln.ensures.shows before.plain refl in
+    let after = c.in_ok-writeln.ensures.writes before.plain refl in
     has_written_of_eq g.W.Write.write_str_gives _ _ _ _ (sym (lines_more c.args.verdicts.now c.loop-number.number Accepted c.loop-number-test.true))
     (has_written_append g.W.Write.write_str_gives _ _ _ _ _ before after)
 
