@@ -6,7 +6,7 @@ use Rattle.list_scheme.specs.Certificate.{first_signed}
 use Rattle.list_scheme.specs.Reading.{read_list, finished}
 use Rattle.list_scheme.proofs.FieldByField.{bitmap-within, reads_no_bitmap, reads_nobody, behind, behind_fault, behind_all, finished_differ, finished_extra, finished-whole}
 use Rattle.list_scheme.proofs.certificate.ListCertificate.read.Goals as goal
-use Rattle.list_scheme.proofs.certificate.ListCertificate.read.Goals.{In-ok-found}
+use Rattle.list_scheme.proofs.certificate.ListCertificate.read.Goals.{In_ok-found}
 
 pub returns-in_err-signers : goal.returns-in_err-signers
 returns-in_err-signers c =
@@ -45,7 +45,7 @@ returns-in_err-found c =
     c.in_ok-listed.listed v.0 v.1 _ (sym c.in_err-found.ensures.read)))
 
 -- all signatures were read, as many as were listed
-found : (c : goal.In-ok-found)
+found : (c : goal.In_ok-found)
     → (length (first_signed c.in_ok-found.found.count c.in_ok-found.found.signatures) ≡ c.in_ok-found.found.count)
     × (read_list c.args.width c.args.bound c.args.bytes.now ≡ finished (bitmap c.in_ok-signers.signers) c.size-at.result c.in_ok-found.found.end (length c.args.bytes.now)
     (Ok (first_signed c.in_ok-found.found.count c.in_ok-found.found.signatures)))
@@ -61,20 +61,20 @@ found c =
 
 pub returns-then-count-found : goal.returns-then-count-found
 returns-then-count-found c =
-    let a = found (goal.at.returns-then-count-found c).In-ok-found in
+    let a = found (goal.at.returns-then-count-found c).In_ok-found in
     let m = c.count-3.ensures in
     ap Err c.fault-then-count-found.ensures
     ∙ sym (a.1 ∙ finished_differ (bitmap c.in_ok-signers.signers) c.size-at.result c.in_ok-found.found.end (length c.args.bytes.now) _ (λ z. c.if-count-found.true (m ∙ z ∙ a.0)))
 
 pub returns-then-found-bytes : goal.returns-then-found-bytes
 returns-then-found-bytes c =
-    let a = found (goal.at.returns-then-found-bytes c).In-ok-found in
+    let a = found (goal.at.returns-then-found-bytes c).In_ok-found in
     let m = c.count-3.ensures in
     ap Err c.fault-then-found-bytes.ensures
     ∙ sym (a.1 ∙ finished_extra (bitmap c.in_ok-signers.signers) c.size-at.result c.in_ok-found.found.end (length c.args.bytes.now) _ (sym m ∙ c.if-count-found.false ∙ sym a.0) (omega arith))
 
 pub returns : goal.returns
 returns c =
-    let a = found (goal.at.returns c).In-ok-found in
+    let a = found (goal.at.returns c).In_ok-found in
     let m = c.count-3.ensures in
     sym (a.1 ∙ finished-whole (bitmap c.in_ok-signers.signers) c.size-at.result c.in_ok-found.found.end (length c.args.bytes.now) _ (sym m ∙ c.if-count-found.false ∙ sym a.0) (omega arith))
