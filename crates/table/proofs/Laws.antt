@@ -1,4 +1,4 @@
-use Rattle.std.proofs.Common.{◌≡◌, ℕ, ◌+◌, ◌-◌, ◌<◌, ◌≤◌, min, cond, eqb, List, [], ◌∷◌, ◌++◌, length, take, drop, set, replicate, Some, None, Option, sym, refl, ap, ◌∙◌, ⊎_elim, append_assoc, arith, length-append}
+use Rattle.std.proofs.Common.{◌≡◌, ℕ, ◌+◌, ◌<◌, ◌≤◌, min, cond, eqb, List, [], ◌∷◌, ◌++◌, length, take, drop, set, replicate, Some, None, Option, sym, refl, ap, ◌∙◌, ⊎_elim, append_assoc, arith, length-append}
 use lib.Utf8.{encode}
 use Rattle.std.proofs.lemmas.List.{take_at, drop_at, drop-drop, drop-set-lt, take_more_set, length-take-le, length-replicate}
 use Rattle.std.proofs.lemmas.Bool.{cases_Bool, eqb-true}
@@ -83,10 +83,10 @@ bad_byte (high ∷ []) (x ∷ xs) size some e = absurd (omega arith)
 bad_byte (high ∷ low ∷ []) rest size some e = ap (λ o. before o (hex_bytes rest)) e
 bad_byte (high ∷ low ∷ more ∷ others) rest size some e = absurd (omega arith)
 
-pub put_none : (digits left chunk rest old room xs : List ℕ) (r : Option ℕ) → r ≡ None → left ≡ chunk ++ rest
+pub put_none : (digits left chunk rest room xs : List ℕ) (r : Option ℕ) → r ≡ None → left ≡ chunk ++ rest
     → length chunk ≡ min 2 (length left) → 0 < length left → hex_byte chunk ≡ None
-    → beside (Some xs) (hex_bytes left) ≡ hex_bytes digits → Put (hex_bytes digits) old room r
-put_none digits left chunk rest old room xs r refused cut size some e inv =
+    → beside (Some xs) (hex_bytes left) ≡ hex_bytes digits → Put (hex_bytes digits) room r
+put_none digits left chunk rest room xs r refused cut size some e inv =
     let joined = ap length cut in
     let bad = bad_byte chunk rest (cc) (omega arith) e in
     let none : hex_bytes digits ≡ None = sym inv ∙ ap (beside (Some xs)) (ap hex_bytes cut ∙ bad) in

@@ -1,4 +1,4 @@
-use Rattle.std.proofs.Common.{◌≡◌, ℕ, ◌+◌, ◌-◌, ◌<◌, ◌≤◌, List, [], ◌∷◌, ◌++◌, length, take, drop, Some, None, Option, sym, refl, ap, ◌∙◌, append-nil, arith, lit<, length-append, Bor}
+use Rattle.std.proofs.Common.{◌≡◌, ℕ, ◌+◌, ◌-◌, ◌<◌, ◌≤◌, List, [], ◌∷◌, ◌++◌, length, take, drop, Some, None, Option, MatchOption, sym, refl, ap, ◌∙◌, append-nil, arith, lit<, length-append, Bor}
 use lib.Seq.{take-append-add, drop-append-add}
 use Rattle.std.proofs.lemmas.List.{length-take-le, length-drop, take-append-le, take_rest, drop_all, drop-drop}
 use Rattle.std.proofs.lemmas.Str.Pattern.{IsSplitOnceResult, split_parts}
@@ -8,9 +8,14 @@ use Rattle.table.proofs.Counts.{count_behind}
 use Rattle.table.proofs.Laws.{beside-beside}
 use Rattle.table.proofs.TextParts.{whole, first_part}
 
+-- what was put is within the room
+pub put_within : (bytes : Option (List ℕ)) (room : List ℕ) (r : Option ℕ) → Put bytes room r → MatchOption r (Unit {0}) (λ n. n ≤ length room)
+put_within bytes room None h = tt
+put_within bytes room (Some n) h = h.0
+
 -- nothing is put where there are no bytes
-pub put_nothing : (bytes : Option (List ℕ)) (old room : List ℕ) (r : Option ℕ) → bytes ≡ None → r ≡ None → Put bytes old room r
-put_nothing bytes old room r none refused = rw (none, refused) tt
+pub put_nothing : (bytes : Option (List ℕ)) (room : List ℕ) (r : Option ℕ) → bytes ≡ None → r ≡ None → Put bytes room r
+put_nothing bytes room r none refused = rw (none, refused) tt
 
 pub empty_word : (word : List ℕ) → length word ≡ 0 → word_bytes word ≡ None
 empty_word [] e = refl
@@ -32,11 +37,11 @@ starred_word word digits count h =
     ap word_bytes cut.0 ∙ ap of_parts (first_part 42 digits.now count.now cut.1) ∙ count_behind digits.now count.now
 
 -- a word's bytes go behind those that stand already
-pub put_further : (word : List ℕ) (left words : List (List ℕ)) (room part mid tail : List ℕ) (len n : ℕ) (bytes : Option (List ℕ))
+pub put_further : (word : List ℕ) (left words : List (List ℕ)) (room part tail : List ℕ) (len n : ℕ) (bytes : Option (List ℕ))
     → left ≡ word ∷ words → beside (Some (take len room)) (all_bytes left) ≡ bytes
-    → len ≤ length room → Put (word_bytes word) mid part (Some n)
+    → len ≤ length room → Put (word_bytes word) part (Some n)
     → beside (Some (take (len + n) (take len room ++ (part ++ tail)))) (all_bytes words) ≡ bytes
-put_further word left words room part mid tail len n bytes next inv h put =
+put_further word left words room part tail len n bytes next inv h put =
     let long = length-take-le len room h in
     let past : take (len + n) (take len room ++ (part ++ tail)) ≡ take len room ++ take n (part ++ tail) =
     ap (λ k. take (k + n) (take len room ++ (part ++ tail))) (sym long) ∙ take-append-add (take len room) (part ++ tail) n in
@@ -65,10 +70,10 @@ unfit_beside front (Some xs) None n m h e = tt
 unfit_beside front (Some xs) (Some ys) n m h e = simp length-append (omega arith)
 
 -- a word that does not fit what is left
-pub put_not : (word : List ℕ) (left words : List (List ℕ)) (front part old room : List ℕ) (bytes : Option (List ℕ)) (r : Option ℕ)
+pub put_not : (word : List ℕ) (left words : List (List ℕ)) (front part room : List ℕ) (bytes : Option (List ℕ)) (r : Option ℕ)
     → left ≡ word ∷ words → beside (Some front) (all_bytes left) ≡ bytes
-    → length room ≤ length front + length part → Unfit (word_bytes word) (length part) → r ≡ None → Put bytes old room r
-put_not word left words front part old room bytes r next inv small h refused =
+    → length room ≤ length front + length part → Unfit (word_bytes word) (length part) → r ≡ None → Put bytes room r
+put_not word left words front part room bytes r next inv small h refused =
     rw (refused, ← inv, next) (unfit_beside front (word_bytes word) (all_bytes words) (length part) (length room) h small)
 
 -- all words are put

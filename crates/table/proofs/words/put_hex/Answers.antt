@@ -6,11 +6,11 @@ use Rattle.table.proofs.words.put_hex.Goals as goal
 
 pub loop-pair-init : goal.loop-pair-init
 loop-pair-init c =
-    let made = ap chunks_rest c.into_iter-pair-iterator.ensures.into_iter-gives ∙ c.chunks-pair-items.ensures.rest in
-    (omega arith, ap chunks_size c.into_iter-pair-iterator.ensures.into_iter-gives ∙ c.chunks-pair-items.ensures.size, beside_none _ ∙ ap hex_bytes made, refl)
+    let made = ap chunks_rest c.into_iter-pair-iterator.ensures.into_iter_gives ∙ c.chunks-pair-items.ensures.rest in
+    (omega arith, ap chunks_size c.into_iter-pair-iterator.ensures.into_iter_gives ∙ c.chunks-pair-items.ensures.size, beside_none _ ∙ ap hex_bytes made, refl)
 
-pub returns-then-len-room : goal.returns-then-len-room
-returns-then-len-room c =
+pub returns-then-len-room-clause-put : goal.returns-then-len-room-clause-put
+returns-then-len-room-clause-put c =
     full c.args.digits.now (chunks_rest c.loop-pair.pair-iterator) c.loop-pair.room c.loop-pair.len
     c.in-Some.ensures.steps.1.2 c.if-len-room.true c.loop-pair.invariant.2
 
@@ -24,10 +24,10 @@ loop-pair-preserved c = (
   behind_one c.args.room.now c.loop-pair.room c.loop-pair.len c.in_ok-room.field-0 c.loop-pair.invariant.3,
 )
 
-pub returns-in_err-room : goal.returns-in_err-room
-returns-in_err-room c =
+pub returns-in_err-room-clause-put : goal.returns-in_err-room-clause-put
+returns-in_err-room-clause-put c =
     let step = c.in-Some.ensures.steps.1 in
     put_none c.args.digits.now (chunks_rest c.loop-pair.pair-iterator) c.in-Some.pair.now
-    (chunks_rest c.next.new.self) c.args.room.now c.loop-pair.room _ c.from_residual.result c.from_residual.ensures
+    (chunks_rest c.next.new.self) c.loop-pair.room _ c.from_residual.result c.from_residual.ensures
     step.0 (step.1 ∙ ap (λ k. min k (length (chunks_rest c.loop-pair.pair-iterator))) c.loop-pair.invariant.1)
     step.2 (sym c.in_err-room.ensures) c.loop-pair.invariant.2

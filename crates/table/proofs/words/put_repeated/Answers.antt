@@ -8,5 +8,5 @@ returns-then-count-room c = search (rules, length-replicate)
 
 pub returns : goal.returns
 returns c =
-    filled c.args.count c.args.byte c.fill.new.self c.args.room.now (omega arith)
-    (c.fill.ensures.after (λ y e. e))
+    let f = filled c.args.count c.args.byte c.fill.new.self c.args.room.now (omega arith) (c.fill.ensures.after (λ y e. e)) in
+    record { put = (f.0, f.1); kept = f.2 }
