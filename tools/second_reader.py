@@ -1,7 +1,7 @@
 #!/usr/bin/env python3
 """What the program `verdicts` does, in Python, written from README.md and docs/ alone: a bundle on standard input, verdicts out.
 
-    target/bin/verdicts < example/bundle.bin | diff - <(python3 tools/second_reader.py < example/bundle.bin)
+    crates/verdicts/out/verdicts < example/bundle.bin | diff - <(python3 tools/second_reader.py < example/bundle.bin)
 """
 import sys
 P = 65521

@@ -7,7 +7,7 @@ use Rattle.std.proofs.lemmas.List.{take-take, take_at, get_or-take, get_or-appen
 use Rattle.refusals.specs.declared.fault.BitmapFault.{BitmapFault}
 use Rattle.keys.specs.Bytes.{big_endian, little_endian, overlaid}
 use Rattle.rolls.specs.Bitmap.{Bitmap, has, bitmap_size, bitmap_written}
-use Rattle.rolls.specs.Signers.{bitmap, written_size, Laid_out}
+use Rattle.rolls.specs.Signers.{bitmap, written_size, LaidOut}
 use Rattle.rolls.specs.declared.signers.Signers.{Signers}
 use Rattle.rolls.proofs.BitLaws.{has_above}
 use Rattle.rolls.proofs.Readings.{big_back}
@@ -52,7 +52,7 @@ written-len b bytes few w =
     let e : take 8 bytes ≡ big_endian 8 b.len = sym (take-take 8 (written_size b) bytes (omega arith)) ∙ ap (take 8) w in
     ap (number_from_digits 256) e ∙ big_back b.len few
 
-pub laid_out : (b : Bitmap) (bytes : List ℕ) → b.len ≤ 64 → b.bits < 2 ^ b.len → take (written_size b) bytes ≡ bitmap_written b → Laid_out b bytes
+pub laid_out : (b : Bitmap) (bytes : List ℕ) → b.len ≤ 64 → b.bits < 2 ^ b.len → take (written_size b) bytes ≡ bitmap_written b → LaidOut b bytes
 laid_out b bytes few fits w =
     record {
       size = omega (arith, length-take (written_size b) bytes, ap length w, length-written b);
@@ -63,12 +63,12 @@ laid_out b bytes few fits w =
 
 -- the same of an answer
 pub ok_laid_out : (bytes : List ℕ) (r : Result Signers BitmapFault) → IfOk r (λ s. take (written_size (bitmap s)) bytes ≡ bitmap_written (bitmap s))
-    → IfOk r (λ s. Laid_out (bitmap s) bytes)
+    → IfOk r (λ s. LaidOut (bitmap s) bytes)
 ok_laid_out bytes (Ok s) w = laid_out (bitmap s) bytes s.within s.fits w
 ok_laid_out bytes (Err f) w = tt
 
 -- a buffer after a set was written at its front
-pub put_laid_out : (s : Signers) (out after : List ℕ) → after ≡ overlaid out 0 (bitmap_written (bitmap s)) → Laid_out (bitmap s) after
+pub put_laid_out : (s : Signers) (out after : List ℕ) → after ≡ overlaid out 0 (bitmap_written (bitmap s)) → LaidOut (bitmap s) after
 put_laid_out s out after e =
     laid_out (bitmap s) after s.within s.fits
     (ap (take (written_size (bitmap s))) e ∙ take_at (bitmap_written (bitmap s)) _ (written_size (bitmap s)) (length-written (bitmap s)))

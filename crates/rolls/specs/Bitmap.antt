@@ -30,7 +30,7 @@ among i (x ∷ xs) = x == i || among i xs
 abbrev pub bitmap_size : ℕ → ℕ
 bitmap_size n = (n + 7) / 8
 
--- the length in eight bytes, then the bits, eight to a byte: `Laid_out` says where each member stands
+-- the length in eight bytes, then the bits, eight to a byte: `LaidOut` says where each member stands
 unfoldable pub bitmap_written : Bitmap → List ℕ
 bitmap_written b = big_endian 8 b.len ++ little_endian (bitmap_size b.len) b.bits
 

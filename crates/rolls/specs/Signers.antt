@@ -21,7 +21,7 @@ written_size b = 8 + bitmap_size b.len
 
 -- bytes at whose front a bitmap stands: its length in the first eight, the most significant first, then its bits, eight to a byte.
 -- Member i is in the set just where bit i mod 8 of byte 8 + i / 8 is set; a bit at or above the length is not set
-pub record Laid_out (b : Bitmap) (bytes : List ℕ) : Type 0 where
+pub record LaidOut (b : Bitmap) (bytes : List ℕ) : Type 0 where
   pub size : written_size b ≤ length bytes
   pub len : number_from_digits 256 (take 8 bytes) ≡ b.len
   pub each : (i : ℕ) → i < b.len → has b.bits i ≡ has (slice_index bytes (8 + i / 8)) (i % 8)

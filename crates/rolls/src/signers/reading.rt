@@ -4,7 +4,7 @@ ghost use Rattle.keys.specs.Bytes.{little_number};
 ghost use Rattle.refusals.specs.Limits.{max_members};
 ghost use Rattle.rolls.specs.Bitmap.{Bitmap, bitmap_written, read_bits, read_bitmap};
 ghost use Rattle.refusals.specs.Results.{map_ok};
-ghost use Rattle.rolls.specs.Signers.{bitmap, written_size, Laid_out, decode_bitmap};
+ghost use Rattle.rolls.specs.Signers.{bitmap, written_size, LaidOut, decode_bitmap};
 
 use super::Signers;
 use keys::put;
@@ -55,7 +55,7 @@ impl Signers {
     pub fn read(bytes: &[u8], limit: usize) -> Result<Signers, BitmapFault>
         ensures read { map_ok bitmap result ≡ read_bitmap limit bytes.now }
         ensures written { IfOk result (λ s. take (written_size (bitmap s)) bytes.now ≡ bitmap_written (bitmap s)) }
-        ensures laid_out { IfOk result (λ s. Laid_out (bitmap s) bytes.now) }
+        ensures laid_out { IfOk result (λ s. LaidOut (bitmap s) bytes.now) }
         ensures reads_back { (b : Bitmap) (rest : List ℕ) → b.len ≤ min limit max_members → b.bits < 2 ^ b.len → bytes.now ≡ bitmap_written b ++ rest → map_ok bitmap result ≡ Ok b }
     {
         if bytes.len() < 8 {

@@ -1,7 +1,7 @@
 // A set of signers as bytes.
 ghost use Rattle.std.specs.Prelude.{◌≡◌, ◌++◌, OnOk};
 ghost use Rattle.keys.specs.Bytes.{big_endian, little_endian};
-ghost use Rattle.rolls.specs.Signers.{bitmap, written_size, Laid_out, Written};
+ghost use Rattle.rolls.specs.Signers.{bitmap, written_size, LaidOut, Written};
 
 use super::Signers;
 use keys::put;
@@ -30,7 +30,7 @@ impl Signers {
     /// Writes the set at the front of a buffer, and gives its size.
     pub fn write(&self, out: &mut [u8]) -> Result<usize, Refusal>
         ensures written { Written (bitmap self.now) out.old out.new result }
-        ensures laid_out { OnOk result (Laid_out (bitmap self.now) out.new) }
+        ensures laid_out { OnOk result (LaidOut (bitmap self.now) out.new) }
     {
         let size = self.size();
         let bytes = self.bytes();
