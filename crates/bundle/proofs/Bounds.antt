@@ -1,5 +1,5 @@
 -- What a bundle without faults is. Assumes nothing.
-use Rattle.std.proofs.Common.{◌≡◌, ℕ, zero, suc, ◌+◌, ◌*◌, ◌/◌, ◌%◌, ◌<◌, ◌≤◌, Bool, true, false, cond, eqb, ltb, List, [], ◌∷◌, ◌++◌, map, length, get_or, take, drop, is_ok, Ok, Err, Result, sym, refl, ap, ◌∙◌, zero-add, div-one, arith}
+use Rattle.std.proofs.Common.{◌≡◌, ℕ, zero, suc, ◌+◌, ◌*◌, ◌/◌, ◌%◌, ◌<◌, ◌≤◌, Bool, true, false, cond, eqb, ltb, List, [], ◌∷◌, ◌++◌, map, length, take, drop, is_ok, Ok, Err, Result, sym, refl, ap, ◌∙◌, zero-add, div-one, arith}
 use Rattle.std.proofs.lemmas.List.{drop-drop, length-drop, length-take-le, append_assoc, take-append-drop, get_or-drop, length-map}
 use Rattle.std.proofs.lemmas.Bool.{le-ltb, ltb-false, or_from, eqb-true}
 use Rattle.refusals.specs.Limits.{max_message, max_certificates, max_input}
@@ -8,6 +8,7 @@ use Rattle.refusals.specs.declared.fault.FaultKind.TheVariants.{InvalidLength, E
 use Rattle.schemes.specs.Judging.{Judging}
 use Rattle.refusals.specs.Results.{map_ok}
 use Rattle.keys.specs.Bytes.{big_endian}
+use Rattle.keys.proofs.Octets.{Octets}
 use Rattle.bundle.specs.Layout.{bundle, field, fault, prefix, opening, closing, entry, entries, following, size, max_prefix, Raw, field_written, entries_written, bundle_written}
 use Rattle.refusals.specs.declared.refusal.Refusal.{Refusal}
 use Rattle.refusals.specs.declared.refusal.Refusal.TheVariants.{SmallBuffer}
@@ -122,11 +123,7 @@ bundle_limits j bs rs h =
     let k = o.1 in let l = e.0 in
     (omega arith, e.1)
 
--- every byte is one
-abbrev pub Bytes : List ℕ → Type 0
-Bytes bs = (i : ℕ) → get_or bs i 0 < 256
-
-bytes_drop : (n : ℕ) (bs : List ℕ) → Bytes bs → Bytes (drop n bs)
+bytes_drop : (n : ℕ) (bs : List ℕ) → Octets bs → Octets (drop n bs)
 bytes_drop n bs h i = let e = get_or-drop n bs i 0 in let k = h (n + i) in omega arith
 
 pair : (a b : ℕ) → a < 256 → b < 256 → big_endian 2 (a * 256 + b) ≡ a ∷ b ∷ []
@@ -136,14 +133,14 @@ pair a b h k =
     λ i. p i ∷ q i ∷ []
 
 -- two bytes are the writing of their number
-prefix-written : (bs : List ℕ) → 2 ≤ length bs → Bytes bs → bs ≡ big_endian 2 (prefix bs) ++ drop 2 bs
+prefix-written : (bs : List ℕ) → 2 ≤ length bs → Octets bs → bs ≡ big_endian 2 (prefix bs) ++ drop 2 bs
 prefix-written [] h b = absurd (omega arith)
 prefix-written (x ∷ []) h b = absurd (omega arith)
 prefix-written (x ∷ y ∷ bs) h b =
     let p : prefix (x ∷ y ∷ bs) ≡ x * 256 + y = ap (λ z. z * 256 + y) (zero-add x) in
     ap (λ z. z ++ bs) (sym (pair x y (b 0) (b 1)) ∙ ap (big_endian 2) (sym p))
 
-found_written : (limit : ℕ) (bs m : List ℕ) → Found limit bs m → Bytes bs → bs ≡ field_written m ++ drop (2 + length m) bs
+found_written : (limit : ℕ) (bs m : List ℕ) → Found limit bs m → Octets bs → bs ≡ field_written m ++ drop (2 + length m) bs
 found_written limit bs m f b =
     prefix-written bs f.two b ∙ ap (λ n. big_endian 2 n ++ drop 2 bs) f.same
     ∙ ap (λ z. big_endian 2 (length m) ++ z) (sym (take-append-drop (length m) (drop 2 bs)) ∙ (λ i. sym f.is i ++ drop-drop (length m) 2 bs i))
@@ -153,7 +150,7 @@ empty : (bs : List ℕ) → length bs ≡ 0 → bs ≡ []
 empty [] h = refl
 empty (b ∷ bs) h = absurd (omega arith)
 
-entries_back : (k at : ℕ) (bs : List ℕ) (rs : List Raw) → entries k at bs ≡ Ok rs → Bytes bs → bs ≡ entries_written rs
+entries_back : (k at : ℕ) (bs : List ℕ) (rs : List Raw) → entries k at bs ≡ Ok rs → Octets bs → bs ≡ entries_written rs
 entries_back zero at bs rs h b = let n = none_left at bs rs h in empty bs n.1 ∙ ap entries_written (sym n.0)
 entries_back (suc k) at bs rs h b =
     let s = split k at bs rs h in
@@ -167,7 +164,7 @@ entries_back (suc k) at bs rs h b =
     ∙ ap entries_written (sym s.joined)
 
 -- a bundle without faults is the writing of its entries
-pub bundle_back : (bs : List ℕ) (rs : List Raw) → bundle bs ≡ Ok rs → Bytes bs → bs ≡ bundle_written rs
+pub bundle_back : (bs : List ℕ) (rs : List Raw) → bundle bs ≡ Ok rs → Octets bs → bs ≡ bundle_written rs
 bundle_back bs rs h b =
     let o = opened bs rs h in
     let l = entries-count (prefix bs) 2 (drop 2 bs) rs o.2 in

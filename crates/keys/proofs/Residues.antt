@@ -6,7 +6,8 @@ use Rattle.std.specs.Str.{bytes_eq}
 use Rattle.std.proofs.lemmas.Int.Digits.{number_more}
 use Rattle.std.proofs.lemmas.Slice.Eq.{bytes_eq-Decides}
 use Rattle.std.proofs.lemmas.Bool.Decides.{same_from_decides}
-use Rattle.keys.specs.Bytes.{big_endian, Octets}
+use Rattle.keys.specs.Bytes.{big_endian}
+use Rattle.keys.proofs.Octets.{Octets}
 use Rattle.keys.specs.Residue.{residue_hash, residue_signature, residue_good}
 use Rattle.keys.specs.Signed.{within}
 use Rattle.keys.specs.ResidueLaws.{number_four, four_key}

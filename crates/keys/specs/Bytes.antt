@@ -1,9 +1,5 @@
 -- Numbers as bytes. Assumes nothing.
-use Rattle.std.specs.Prelude.{ℕ, zero, suc, ◌+◌, ◌*◌, ◌/◌, ◌%◌, ◌^◌, ◌<◌, List, [], ◌∷◌, ◌++◌, length, take, drop, slice_index}
-
--- numbers that bytes hold
-abbrev pub Octets : List ℕ → Type 0
-Octets bytes = (k : ℕ) → slice_index bytes k < 256
+use Rattle.std.specs.Prelude.{ℕ, zero, suc, ◌+◌, ◌*◌, ◌/◌, ◌%◌, ◌^◌, List, [], ◌∷◌, ◌++◌, length, take, drop}
 
 -- n bytes, the most significant first
 abbrev pub big_endian : ℕ → ℕ → List ℕ

@@ -10,7 +10,7 @@ use Rattle.refusals.specs.declared.fault.CertificateFault.{CertificateFault}
 use Rattle.refusals.specs.declared.fault.FaultKind.TheVariants.{EndOfBuffer}
 use Rattle.refusals.specs.declared.fault.Layer.TheVariants.{Signatures}
 use Rattle.refusals.proofs.Unrefused.{never, past, kept, from_mapped}
-use Rattle.keys.specs.Bytes.{Octets}
+use Rattle.keys.proofs.Octets.{Octets}
 use Rattle.keys.specs.Varint.{varint, read_varint}
 use Rattle.keys.specs.declared.varint.Varint.{Varint}
 use Rattle.keys.specs.declared.varint.VarintFault.{VarintFault}

@@ -11,7 +11,8 @@ use Rattle.refusals.specs.declared.fault.BitmapFault.{BitmapFault}
 use Rattle.refusals.specs.declared.fault.CertificateFault.{CertificateFault}
 use Rattle.refusals.specs.declared.fault.FaultKind.TheVariants.{EndOfBuffer, InvalidLength, Invalid, ExtraData}
 use Rattle.refusals.specs.declared.fault.Layer.TheVariants.{Certificate}
-use Rattle.keys.specs.Bytes.{big_endian, little_endian, little_number, overlaid, Octets}
+use Rattle.keys.specs.Bytes.{big_endian, little_endian, little_number, overlaid}
+use Rattle.keys.proofs.Octets.{Octets}
 use Rattle.rolls.specs.Bitmap.{Bitmap, bitmap_size, bitmap_written, read_bits, read_bitmap}
 use Rattle.refusals.specs.Results.{map_ok}
 use Rattle.refusals.proofs.Unrefused.{never, past, kept}

@@ -3,7 +3,7 @@ ghost use Rattle.std.specs.Prelude.{◌≡◌, ◌<◌, ◌++◌};
 ghost use Rattle.keys.specs.Bytes.{big_endian};
 ghost use Rattle.schemes.specs.Subjects.{Said, edition_message};
 
-use crate::namespace::{EditionNamespace, Namespace, Namespace as _};
+use crate::namespace::{EditionNamespace, Namespace};
 use keys::put;
 use std::marker::PhantomData;
 

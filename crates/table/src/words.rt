@@ -79,7 +79,7 @@ fn put_word(word: &str, room: &mut [u8]) -> Option<usize>
     }
 }
 
-/// The bytes of words that single blanks part; none if a word is bad or the room too short.
+/// Puts the bytes of words that single spaces separate; none if a word is bad or the room too short.
 pub fn put_words(text: &str, room: &mut [u8]) -> Option<usize>
     ensures within { IfSome result (λ n. n ≤ length room.new) }
     ensures put { Put (text_bytes text.now) room.new result }
