@@ -5,21 +5,21 @@ ghost use Rattle.refusals.specs.Faults.{layered, raised};
 #[derive(Clone, Copy, PartialEq, Eq)]
 pub enum FaultKind {
     /// The input ends before the field does.
-    EndOfBuffer,
+    EndOfBuffer = 8,
     /// A length or a count above its limit.
-    InvalidLength,
+    InvalidLength = 9,
     /// Bytes that are no writing of the field.
-    Invalid,
+    Invalid = 10,
     /// Bytes left over.
-    ExtraData,
+    ExtraData = 11,
 }
 
 #[derive(Clone, Copy, PartialEq, Eq)]
 pub enum Layer {
-    Bitmap,
-    Signatures,
-    Certificate,
-    Bundle,
+    Bitmap = 1,
+    Signatures = 2,
+    Certificate = 3,
+    Bundle = 4,
 }
 
 /// The place is counted from the first byte of the bitmap's length.
@@ -38,6 +38,8 @@ pub struct CertificateFault {
 }
 
 /// The place is counted from the bundle's first byte.
+// Alike in form to a certificate's fault, and a type of its own, so that a place that was not raised does not fit. One type with a
+// marker for what the place is counted from would put a marker or a constructor in the place of each literal.
 #[derive(Clone, Copy, PartialEq, Eq)]
 pub struct BundleFault {
     pub kind: FaultKind,

@@ -37,12 +37,7 @@ impl Layer {
     pub fn number(self) -> u8
         ensures { result ≡ layer_number self }
     {
-        match self {
-            Layer::Bitmap => 1,
-            Layer::Signatures => 2,
-            Layer::Certificate => 3,
-            Layer::Bundle => 4,
-        }
+        self as u8
     }
 }
 
@@ -50,12 +45,7 @@ impl FaultKind {
     pub fn number(self) -> u8
         ensures { result ≡ kind_number self }
     {
-        match self {
-            FaultKind::EndOfBuffer => 8,
-            FaultKind::InvalidLength => 9,
-            FaultKind::Invalid => 10,
-            FaultKind::ExtraData => 11,
-        }
+        self as u8
     }
 
     // The refusal that a fault of this kind becomes.
@@ -72,6 +62,7 @@ impl FaultKind {
 }
 
 impl Refusal {
+    // `as` gives no number where variants have fields.
     pub fn number(self) -> u8
         ensures { result ≡ number_of self }
     {
@@ -130,6 +121,7 @@ fn two(first: usize, second: usize) -> Values
     }
 }
 
+// Each type of fault has its own `From`; what both do is `refusal`.
 impl From<CertificateFault> for Refusal {
     ghost from_gives = { λ f r. r ≡ refused f.kind f.layer f.place };
 

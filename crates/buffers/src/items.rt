@@ -1,0 +1,52 @@
+// The items of a bounded list.
+ghost use Rattle.std.specs.Prelude.{◌≡◌, ◌+◌, ◌<◌, ◌≤◌, [], ◌∷◌, ◌++◌, List, length, take, IsSome, MatchOption};
+ghost use Rattle.buffers.specs.Items.{items};
+
+use crate::table::Bounded;
+
+impl<T: Copy, const N: usize> Bounded<T, N> {
+    /// No items yet; a blank lies in each place that is free.
+    pub fn new(blank: T) -> Bounded<T, N>
+        ensures { items result ≡ [] }
+    {
+        Bounded {
+            table: [blank; N],
+            len: 0,
+        }
+    }
+
+    /// Puts an item behind the others; none, and nothing is put, without room.
+    pub fn push(&mut self, item: T) -> Option<()>
+        ensures { MatchOption result ((length (items self.old) ≡ N) × (self.new ≡ self.old)) (λ _. items self.new ≡ items self.old ++ item ∷ []) }
+    {
+        if self.len == N {
+            return None;
+        }
+        self.table[self.len] = item;
+        self.len += 1;
+        Some(())
+    }
+
+    /// Puts items behind the others; none, and nothing is put, without room for all.
+    pub fn extend_from_slice(&mut self, more: &[T]) -> Option<()>
+        ensures { MatchOption result ((N < length (items self.old) + length more.now) × (self.new ≡ self.old)) (λ _. items self.new ≡ items self.old ++ more.now) }
+    {
+        if more.len() > N - self.len {
+            return None;
+        }
+        let end = self.len + more.len();
+        let room = &mut self.table[..];
+        room[self.len..end].copy_from_slice(more);
+        self.len = end;
+        Some(())
+    }
+
+    /// The items, in order.
+    pub fn as_slice(&self) -> &[T]
+        ensures items { result.now ≡ items self.now }
+        ensures few { length result.now ≤ N }
+    {
+        let table = &self.table[..];
+        &table[..self.len]
+    }
+}

@@ -1,0 +1,23 @@
+// A list of bounded length, in fixed memory.
+ghost use Rattle.std.specs.Prelude.{◌≡◌, ◌≤◌, length};
+
+use std::alloc::AllocError;
+
+/// A list of at most `N` items, which lie in the value itself.
+#[derive(Copy)]
+pub struct Bounded<T, const N: usize> {
+    pub(crate) table: [T; N],
+    pub(crate) len: usize,
+    ghost long: { length table ≡ N },
+    ghost within: { len ≤ N },
+}
+
+impl<T: Copy, const N: usize> Clone for Bounded<T, N> {
+    ghost is_clone = { λ a b. b ≡ a };
+
+    ghost is_infallible = { λ _. Unit {0} };
+
+    fn clone(&self) -> Result<Bounded<T, N>, AllocError> {
+        Ok(*self)
+    }
+}
