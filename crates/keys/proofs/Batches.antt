@@ -1,30 +1,30 @@
 -- A batch read entry by entry. Assumes nothing.
-use Rattle.std.proofs.Common.{◌≡◌, ℕ, ◌+◌, ◌<◌, ◌≤◌, Bool, true, false, ◌&&◌, List, ◌∷◌, map, length, get_or, drop, sym, ap, ◌∙◌, arith}
-use Rattle.std.proofs.lemmas.List.{drop_more, drop_all, length-map, get_or-map}
-use Rattle.std.proofs.lemmas.Bool.{and_left}
-use Rattle.keys.specs.Batch.{entry_of}
-use Rattle.keys.specs.declared.batch.BatchEntry.{BatchEntry}
+use Rattle.std.proofs.Common.{◌≡◌, ℕ, ◌<◌, Bool, true, false, List, [], ◌∷◌, length, get_or, suc, zero, zero-add, sym, refl, arith, MatchBool}
+use Rattle.std.specs.List.{AllWithin, HoldsAt, range_with_len}
+use Rattle.std.proofs.lemmas.List.FromFn.{length-range_with_len, get_or-range_with_len}
+use Rattle.std.proofs.lemmas.Bool.Decides.{nat_tests}
 use Rattle.keys.specs.Meaning.{KeyMeaning, Entry, no_entry, all_good}
 
-module _ (m : KeyMeaning) (es : List Entry) (i : ℕ) (a : Bool) where
-  at_place : (e : Entry) → i < length es → get_or es i no_entry ≡ e → all_good m (drop i es) ≡ (m.good e.key e.payload e.signature && all_good m (drop (i + 1) es))
-  at_place e h q = ap (all_good m) (drop_more es i no_entry h ∙ ap (λ z. z ∷ drop (i + 1) es) q)
+-- the entry at a place is good, and is not
+abbrev pub Good : KeyMeaning → List Entry → ℕ → Type 0
+Good m es i = let e = get_or es i no_entry in m.good e.key e.payload e.signature ≡ true
 
-  pub good_more : (e : Entry) → i < length es → get_or es i no_entry ≡ e → true ≡ m.good e.key e.payload e.signature
-      → all_good m (drop i es) ≡ a → all_good m (drop (i + 1) es) ≡ a
-  good_more e h q g w = sym (at_place e h q ∙ ap (λ t. t && all_good m (drop (i + 1) es)) (sym g)) ∙ w
+abbrev pub Bad : KeyMeaning → List Entry → ℕ → Type 0
+Bad m es i = i < length es → let e = get_or es i no_entry in m.good e.key e.payload e.signature ≡ false
 
-  pub good_stops : (e : Entry) → i < length es → get_or es i no_entry ≡ e → false ≡ m.good e.key e.payload e.signature
-      → all_good m (drop i es) ≡ a → false ≡ a
-  good_stops e h q g w = sym (at_place e h q ∙ and_left (m.good e.key e.payload e.signature) (all_good m (drop (i + 1) es)) (sym g)) ∙ w
+good_all : (m : KeyMeaning) (es : List Entry) → ((i : ℕ) → i < length es → Good m es i) → all_good m es ≡ true
+good_all m [] h = refl
+good_all m (e ∷ es) h = grind (arith, nat_tests, h 0, good_all m es (λ i l. h (suc i) (omega arith)))
 
-  pub good_ends : length es ≤ i → all_good m (drop i es) ≡ a → true ≡ a
-  good_ends h w = sym (ap (all_good m) (drop_all i es h)) ∙ w
+bad_one : (m : KeyMeaning) (es : List Entry) (i : ℕ) → i < length es → Bad m es i → all_good m es ≡ false
+bad_one m [] i l h = absurd (omega arith)
+bad_one m (e ∷ es) zero l h = grind (arith, nat_tests)
+bad_one m (e ∷ es) (suc i) l h = grind (arith, nat_tests, bad_one m es i)
 
--- the entry at a place of a list
-pub entry_listed : {K : Type 0} (key : K → List ℕ) (xs : List (BatchEntry K)) (i : ℕ) (e : BatchEntry K) → i < length xs → e ≡ get_or xs i e
-    → (i < length (map (entry_of key) xs)) × (get_or (map (entry_of key) xs) i no_entry ≡ entry_of key e)
-entry_listed key xs i e h q = (omega (arith, length-map xs (entry_of key)), get_or-map (entry_of key) xs i e no_entry h ∙ ap (entry_of key) (sym q))
-
-pub entry_past : {K : Type 0} (key : K → List ℕ) (xs : List (BatchEntry K)) (i : ℕ) → length xs ≤ i → length (map (entry_of key) xs) ≤ i
-entry_past key xs i h = omega (arith, length-map xs (entry_of key))
+pub judged_all : (m : KeyMeaning) (es : List Entry) (r : Bool)
+    → MatchBool r (AllWithin (Good m es) (range_with_len 0 (length es)) 0 (length (range_with_len 0 (length es)))) ((k : ℕ) × (k < length (range_with_len 0 (length es))) × HoldsAt (Bad m es) (range_with_len 0 (length es)) k)
+    → r ≡ all_good m es
+judged_all m es true h = sym (good_all m es (λ i l. simp (get_or-range_with_len, zero-add) at (h i 0 (omega arith) (omega (arith, length-range_with_len 0 (length es))))))
+judged_all m es false h =
+    let l : h.0 < length es = omega (arith, length-range_with_len 0 (length es)) in
+    sym (bad_one m es h.0 l (simp (get_or-range_with_len, zero-add) at (h.2 0)))

@@ -1,50 +1,31 @@
 -- Bytes at the front of a buffer. Assumes nothing.
-use Rattle.std.proofs.Common.{◌≡◌, ℕ, ◌+◌, ◌<◌, ◌≤◌, true, cond, leb, List, [], ◌++◌, length, take, drop, Some, None, Option, sym, ap, ◌∙◌, arith, MatchOption}
-use Rattle.std.proofs.lemmas.List.{append_assoc, length-append, length-take-le, take-append-le, take_all, take_at, drop_at, drop-drop, length-drop}
-use lib.Seq.{take-append-add}
-use Rattle.std.proofs.lemmas.Bool.{le-leb}
+use Rattle.std.proofs.Common.{◌≡◌, ℕ, ◌+◌, ◌<◌, ◌≤◌, List, ◌++◌, length, take, drop, Some, None, Option, sym, ap, ◌∙◌, arith, MatchOption}
+use Rattle.std.proofs.lemmas.List.{append_assoc, length-append}
+use Rattle.std.proofs.lemmas.Grind.{common_steps}
+use Rattle.std.proofs.lemmas.Slice.{drop-append-drop}
 use Rattle.keys.specs.Bytes.{overlaid}
 
 -- what was written at the front is read there again
 pub overlaid-front : (buffer bytes : List ℕ) → take (length bytes) (overlaid buffer 0 bytes) ≡ bytes
-overlaid-front buffer bytes = take-append-le (length bytes) bytes (drop (0 + length bytes) buffer) (omega arith) ∙ take_all (length bytes) bytes (omega arith)
-
-pub overlaid-within : (buffer bytes copy : List ℕ) (n : ℕ) → n ≡ 0 + length bytes → n ≤ 64 → copy ≡ overlaid buffer 0 bytes
-    → cond (leb n 64) (take n copy) [] ≡ cond (leb (length bytes) 64) bytes []
-overlaid-within buffer bytes copy n e h q =
-    let l : n ≡ length bytes = omega arith in
-    let a : leb n 64 ≡ true = le-leb n 64 h in
-    let b : leb (length bytes) 64 ≡ true = le-leb (length bytes) 64 (omega arith) in
-    rw (a, b, l, q) (overlaid-front buffer bytes)
-
--- bytes written behind others are one writing of both
-pub overlaid_more : (buffer xs ys : List ℕ) (at : ℕ) → at ≤ length buffer
-    → overlaid (overlaid buffer at xs) (at + length xs) ys ≡ overlaid buffer at (xs ++ ys)
-overlaid_more buffer xs ys at h =
-    let n : length (take at buffer ++ xs) ≡ at + length xs = length-append (take at buffer) xs ∙ ap (λ z. z + length xs) (length-take-le at buffer h) in
-    let e : overlaid buffer at xs ≡ (take at buffer ++ xs) ++ drop (at + length xs) buffer = sym (append_assoc (take at buffer) xs (drop (at + length xs) buffer)) in
-    let t = take_at (take at buffer ++ xs) (drop (at + length xs) buffer) (at + length xs) n in
-    let d = drop_at (take at buffer ++ xs) (drop (at + length xs) buffer) (at + length xs) n in
-    let f = drop-drop (length ys) (at + length xs) ((take at buffer ++ xs) ++ drop (at + length xs) buffer) in
-    let g = drop-drop (length ys) (at + length xs) buffer in
-    let k : drop (at + length xs + length ys) buffer ≡ drop (at + length (xs ++ ys)) buffer = ap (λ z. drop z buffer) (omega (arith, length-append xs ys)) in
-    let a = append_assoc (take at buffer) xs (ys ++ drop (at + length (xs ++ ys)) buffer) in
-    let b = append_assoc xs ys (drop (at + length (xs ++ ys)) buffer) in
-    cc
+overlaid-front buffer bytes = grind (arith, common_steps)
 
 -- up to its end, what was written stands behind what was there
 pub overlaid-take : (buffer bytes : List ℕ) (at : ℕ) → at ≤ length buffer → take (at + length bytes) (overlaid buffer at bytes) ≡ take at buffer ++ bytes
-overlaid-take buffer bytes at h =
-    let l : length (take at buffer) ≡ at = length-take-le at buffer h in
-    ap (λ n. take (n + length bytes) (overlaid buffer at bytes)) (sym l)
-    ∙ take-append-add (take at buffer) (bytes ++ drop (at + length bytes) buffer) (length bytes)
-    ∙ ap (λ z. take at buffer ++ z) (take-append-le (length bytes) bytes (drop (at + length bytes) buffer) (omega arith) ∙ take_all (length bytes) bytes (omega arith))
+overlaid-take buffer bytes at h = grind (arith, common_steps)
 
 pub overlaid-length : (buffer bytes : List ℕ) (at : ℕ) → at + length bytes ≤ length buffer → length (overlaid buffer at bytes) ≡ length buffer
-overlaid-length buffer bytes at h =
-    let l : length (take at buffer) ≡ at = length-take-le at buffer (omega arith) in
-    let d = length-drop (at + length bytes) buffer in
-    length-append (take at buffer) (bytes ++ drop (at + length bytes) buffer) ∙ ap (λ n. length (take at buffer) + n) (length-append bytes (drop (at + length bytes) buffer)) ∙ omega arith
+overlaid-length buffer bytes at h = grind (arith, common_steps)
+
+-- behind its end, the buffer is as it was
+pub overlaid-drop : (buffer bytes : List ℕ) (at n : ℕ) → at ≤ length buffer → at + length bytes ≤ n → drop n (overlaid buffer at bytes) ≡ drop n buffer
+overlaid-drop buffer bytes at n h l =
+    let k : length (take at buffer ++ bytes) ≡ at + length bytes = grind (arith, common_steps) in
+    ap (drop n) (sym (append_assoc (take at buffer) bytes (drop (at + length bytes) buffer))) ∙ drop-append-drop (at + length bytes) buffer (take at buffer ++ bytes) n l k
+
+-- bytes written behind others are one writing of both
+pub overlaid_next : (buffer xs ys : List ℕ) (at n : ℕ) → at ≤ length buffer → n ≡ at + length xs
+    → overlaid (overlaid buffer at xs) n ys ≡ overlaid buffer at (xs ++ ys)
+overlaid_next buffer xs ys at n h e = grind (arith, append_assoc, length-append, overlaid-take, overlaid-drop)
 
 -- what `put` ensures
 abbrev pub Put : List ℕ → ℕ → List ℕ → List ℕ → Option ℕ → Type 0
@@ -52,7 +33,7 @@ Put out at bytes after r = MatchOption r ((length out < at + length bytes) × (a
 
 -- with room, `put` writes
 pub put_fits : (out bytes after : List ℕ) (at : ℕ) (r : Option ℕ) → at + length bytes ≤ length out → Put out at bytes after r → after ≡ overlaid out at bytes
-put_fits out bytes after at None h p = let q = p.0 in absurd (omega arith)
+put_fits out bytes after at None h p = absurd (omega arith)
 put_fits out bytes after at (Some end) h p = p.2
 
 -- two writings, one behind the other, from the front on
@@ -66,4 +47,4 @@ put_two out x y after last at r s e h p q =
     ap (take (at + length y)) b ∙ overlaid-take after y at (omega arith) ∙ ap (λ z. z ++ y) t
 
 pub put_one : (out x after : List ℕ) (r : Option ℕ) → length x ≤ length out → Put out 0 x after r → take (length x) after ≡ x
-put_one out x after r h p = ap (take (length x)) (put_fits out x after 0 r (omega arith) p) ∙ overlaid-front out x
+put_one out x after r h p = grind (arith, put_fits, overlaid-front)

@@ -1,3 +1,4 @@
+-- Lists of bytes. Assumes nothing.
 use Rattle.std.proofs.Common.{ℕ, ◌<◌, List, get_or}
 
 -- numbers that bytes hold

@@ -1,5 +1,6 @@
 -- The bytes of a signature. Assumes nothing.
-use Rattle.std.specs.Prelude.{ℕ, cond, List, [], length, take, nat_le}
+use Rattle.std.specs.Prelude.{ℕ, cond, List, [], length, nat_le}
+use Rattle.buffers.specs.Items.{items}
 use Rattle.refusals.specs.Limits.{max_signature}
 use Rattle.keys.specs.declared.signature.Signature.{Signature}
 
@@ -8,4 +9,4 @@ abbrev pub within : List ℕ → List ℕ
 within bytes = cond (nat_le (length bytes) max_signature) bytes []
 
 abbrev pub signed : Signature → List ℕ
-signed s = cond (nat_le s.len max_signature) (take s.len s.bytes) []
+signed s = items s.bytes

@@ -1,6 +1,8 @@
 -- Unsigned LEB128 in its shortest form, for numbers of at most 32 bits. Assumes nothing.
 use Rattle.std.specs.Prelude.{ℕ, zero, suc, ◌+◌, ◌*◌, ◌/◌, ◌%◌, ◌^◌, Bool, false, cond, not, ◌&&◌, ◌||◌, List, [], ◌∷◌, length, Ok, Err, Result, nat_lt}
 use Rattle.std.specs.Str.{bytes_eq}
+use Rattle.refusals.specs.declared.fault.FaultKind.{FaultKind}
+use Rattle.refusals.specs.declared.fault.FaultKind.TheVariants as kinds
 use Rattle.keys.specs.declared.varint.Varint.{Varint}
 use Rattle.keys.specs.declared.varint.VarintFault.{VarintFault}
 use Rattle.keys.specs.declared.varint.VarintFault.TheVariants.{EndOfBuffer, Invalid}
@@ -37,3 +39,8 @@ judged f = cond (nat_lt (grouped f) (2 ^ 32) && bytes_eq (varint (grouped f)) f)
 -- what reading the front of some bytes gives; they end too early when fewer than five are there, none below 128
 unfoldable pub read_varint : List ℕ → Result Varint VarintFault
 read_varint bs = cond (nat_lt (length bs) 5 && not (closed bs)) (Err EndOfBuffer) (judged (field 5 bs))
+
+-- the kind of fault that a caller meets
+abbrev pub fault_kind : VarintFault → FaultKind
+fault_kind EndOfBuffer = kinds.EndOfBuffer
+fault_kind Invalid = kinds.Invalid

@@ -5,7 +5,7 @@ ghost use Rattle.keys.specs.Meaning.{Entry, no_entry, all_good};
 
 use crate::check::KeyCheck;
 
-#[derive(Clone, Copy)]
+#[derive(Clone, Copy, PartialEq, Eq)]
 pub struct BatchEntry<'a, K> {
     pub key: K,
     pub payload: &'a [u8],
@@ -13,6 +13,7 @@ pub struct BatchEntry<'a, K> {
 }
 
 /// A batch that is read entry by entry.
+// No bound on an iterator: what its items are would be a `requires`, and no public function has one.
 pub trait BatchReader<K: KeyCheck> {
     ghost entries: { Self → List Entry };
 
@@ -26,19 +27,15 @@ pub trait BatchReader<K: KeyCheck> {
 pub fn verify_batch<K: KeyCheck, R: BatchReader<K>>(reader: &R) -> bool
     ensures { result ≡ all_good K.KeyCheck.meaning (R.BatchReader.entries reader.now) }
 {
-    for place in 0..reader.len() {
-        let Some(entry) = reader.entry(place) else {
-            return false;
-        };
-        if !entry.key.verify(entry.payload, entry.signature) {
-            return false;
-        }
-    }
-    true
+    (0..reader.len()).all(|place| {
+        reader
+            .entry(place)
+            .is_some_and(|entry| entry.key.verify(entry.payload, entry.signature))
+    })
 }
 
 /// A batch that lies in a list.
-#[derive(Clone, Copy)]
+#[derive(Clone, Copy, PartialEq, Eq)]
 pub struct BatchList<'a, 'b, K> {
     pub entries: &'a [BatchEntry<'b, K>],
 }
@@ -51,11 +48,6 @@ impl<'a, 'b, K: KeyCheck> BatchReader<K> for BatchList<'a, 'b, K> {
     }
 
     fn entry(&self, place: usize) -> Option<BatchEntry<'_, K>> {
-        let entry = self.entries.get(place)?;
-        Some(BatchEntry {
-            key: entry.key,
-            payload: entry.payload,
-            signature: entry.signature,
-        })
+        self.entries.get(place).copied()
     }
 }

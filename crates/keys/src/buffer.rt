@@ -6,11 +6,9 @@ ghost use Rattle.keys.specs.Bytes.{overlaid};
 pub fn put(out: &mut [u8], at: usize, bytes: &[u8]) -> Option<usize>
     ensures { MatchOption result ((length out.old < at + length bytes.now) × (out.new ≡ out.old)) (λ end. (end ≡ at + length bytes.now) × (end ≤ length out.old) × (out.new ≡ overlaid out.old at bytes.now)) }
 {
-    if at > out.len() || bytes.len() > out.len() - at {
-        return None;
-    }
+    let end = at.checked_add(bytes.len()).filter(|end| *end <= out.len())?;
     overlay(out, at, bytes);
-    Some(at + bytes.len())
+    Some(end)
 }
 
 // Writes bytes at a place that has room for them.

@@ -13,7 +13,7 @@ pub const MODULUS: u32 = 65_521;
 // The bytes of a signature.
 const WIDTH: usize = 4;
 
-#[derive(Clone, Copy)]
+#[derive(Clone, Copy, PartialEq, Eq)]
 pub struct ResidueKey {
     value: u32,
     ghost some: { 1 ≤ value },
@@ -22,6 +22,7 @@ pub struct ResidueKey {
 
 impl ResidueKey {
     // The key times the payload, below the modulus.
+    #[tactic(auto, unfolding(crate::specs::Residue::residue_signature))]
     fn product(&self, payload: &[u8]) -> [u8; 4]
         ensures { result ≡ residue_signature self.now.value payload.now }
     {
@@ -30,6 +31,7 @@ impl ResidueKey {
 }
 
 // The bytes as one number, below the modulus.
+#[tactic(auto, using(std::proofs::lemmas::Int::Digits::number_more), unfolding(crate::specs::Residue::residue_hash))]
 fn hash(bytes: &[u8]) -> u32
     ensures is { result ≡ residue_hash bytes.now }
     ensures below { result < 65521 }
@@ -45,10 +47,7 @@ fn hash(bytes: &[u8]) -> u32
 fn number(bytes: &[u8]) -> Option<u32>
     ensures { MatchOption result ((length bytes.now == 4) ≡ false) (λ n. (length bytes.now ≡ 4) × (n ≡ number_of 256 bytes.now)) }
 {
-    match bytes {
-        [a, b, c, d] => Some(u32::from_be_bytes([*a, *b, *c, *d])),
-        _ => None,
-    }
+    bytes.as_array().map(|four| u32::from_be_bytes(*four))
 }
 
 impl KeyCheck for ResidueKey {
@@ -60,11 +59,9 @@ impl KeyCheck for ResidueKey {
 
     ghost keyed = { λ k. four_key k.value k.some k.below };
 
+    #[tactic(auto, using(crate::proofs::Residues::four_bytes))]
     fn from_bytes(bytes: &[u8]) -> Option<ResidueKey> {
-        let value = number(bytes)?;
-        if value == 0 || value >= MODULUS {
-            return None;
-        }
+        let value = number(bytes).filter(|value| (1..MODULUS).contains(value))?;
         Some(ResidueKey { value })
     }
 
@@ -73,16 +70,14 @@ impl KeyCheck for ResidueKey {
     }
 
     fn decodes(signature: &[u8]) -> bool {
-        match number(signature) {
-            Some(value) => value < MODULUS,
-            None => false,
-        }
+        number(signature).is_some_and(|value| value < MODULUS)
     }
 
     fn verify(&self, payload: &[u8], signature: &[u8]) -> bool {
         signature == self.product(payload).as_slice()
     }
 
+    #[tactic(auto, using(crate::proofs::Residues::good_itself))]
     fn sign(&self, payload: &[u8]) -> Signature {
         Signature::new(&self.product(payload))
     }

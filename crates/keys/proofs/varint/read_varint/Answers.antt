@@ -1,17 +1,8 @@
 use Rattle.std.proofs.Common.{◌≡◌, get_or, Err, refl, arith}
 use Rattle.keys.specs.Varint.{read_varint}
 use Rattle.keys.specs.declared.varint.VarintFault.TheVariants.{EndOfBuffer, Invalid}
-use Rattle.keys.proofs.VarintReads.{weighs, product_fits, reading_more, reading_closes, reading_stops, reading_ends, back_from_value, shortest_from_value}
+use Rattle.keys.proofs.VarintReads.{reading_more, reading_closes, reading_stops, reading_ends, back_from_value, shortest_from_value}
 use Rattle.keys.proofs.varint.read_varint.Goals as goal
-
-pub overflow_mul-value : goal.overflow_mul-value
-overflow_mul-value c = omega (arith, product_fits c.loop-place.place c.loop-place.weight (get_or c.args.bytes.now c.loop-place.place 0) c.loop-place.invariant.2 c.loop-place.invariant.4)
-
-pub overflow_add-value : goal.overflow_add-value
-overflow_add-value c = omega (arith, weighs c.loop-place.place c.loop-place.weight c.loop-place.invariant.2 c.loop-place.invariant.4, product_fits c.loop-place.place c.loop-place.weight (get_or c.args.bytes.now c.loop-place.place 0) c.loop-place.invariant.2 c.loop-place.invariant.4)
-
-pub overflow_mul-weight : goal.overflow_mul-weight
-overflow_mul-weight c = omega (arith, weighs c.loop-place.place c.loop-place.weight c.loop-place.invariant.2 c.loop-place.invariant.4)
 
 pub loop-place-preserved : goal.loop-place-preserved
 loop-place-preserved c =
