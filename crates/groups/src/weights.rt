@@ -19,7 +19,7 @@ pub trait Weights {
 }
 
 /// Gives its state, then one more, and so on.
-#[derive(Clone, Copy)]
+#[derive(Clone, Copy, PartialEq, Eq)]
 pub struct Counting {
     pub state: u64,
 }
