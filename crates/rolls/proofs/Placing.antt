@@ -1,13 +1,14 @@
 -- Where each member stands in the writing of a bitmap. Assumes nothing.
-use Rattle.std.proofs.Common.{◌≡◌, ℕ, zero, suc, ◌+◌, ◌-◌, ◌*◌, ◌/◌, ◌%◌, ◌^◌, ◌<◌, ◌≤◌, eqb, List, length, get_or, take, IfOk, Ok, Err, Result, sym, ap, ◌∙◌, arith}
-use lib.Pow.{mod-mod-pow}
+use Rattle.std.proofs.Common.{◌≡◌, ℕ, zero, suc, ◌+◌, ◌*◌, ◌/◌, ◌%◌, ◌^◌, ◌<◌, ◌≤◌, eqb, List, length, get_or, take, IfOk, Ok, Err, Result, OnOk, sym, ap, ◌∙◌, arith}
 use Rattle.std.specs.Int.Digits.{number_from_digits}
-use Rattle.std.proofs.lemmas.Nat.{field_of, shr-shr}
+use Rattle.std.proofs.lemmas.Nat.{shr-shr}
+use Rattle.std.proofs.lemmas.Nat.Bits.{bit_at_cat_low}
 use Rattle.std.proofs.lemmas.List.{take-take, take_at, get_or-take, get_or-append-add, length-take}
 use Rattle.refusals.specs.declared.fault.BitmapFault.{BitmapFault}
-use Rattle.keys.specs.Bytes.{big_endian, little_endian, overlaid}
+use Rattle.refusals.specs.declared.refusal.Refusal.{Refusal}
+use Rattle.keys.specs.Bytes.{big_endian, little_endian}
 use Rattle.rolls.specs.Bitmap.{Bitmap, has, bitmap_size, bitmap_written}
-use Rattle.rolls.specs.Signers.{bitmap, written_size, LaidOut}
+use Rattle.rolls.specs.Signers.{bitmap, written_size, LaidOut, Written}
 use Rattle.rolls.specs.declared.signers.Signers.{Signers}
 use Rattle.rolls.proofs.BitLaws.{has_above}
 use Rattle.rolls.proofs.Readings.{big_back}
@@ -16,11 +17,8 @@ use Rattle.rolls.proofs.Writings.{length-written}
 -- a bit of a number's lightest byte
 has_low : (x t : ℕ) → t < 8 → has (x % 256) t ≡ has x t
 has_low x t l =
-    let a : 8 ≡ (8 - t) + t = omega arith in
-    let b : 8 - t ≡ (7 - t) + 1 = omega arith in
-    let p : x % 256 / 2 ^ t ≡ x / 2 ^ t % 2 ^ (8 - t) = ap (λ n. x % 2 ^ n / 2 ^ t) a ∙ field_of x (8 - t) t in
-    let q : x / 2 ^ t % 2 ^ (8 - t) % 2 ≡ x / 2 ^ t % 2 = ap (λ n. x / 2 ^ t % 2 ^ n % 2) b ∙ mod-mod-pow (x / 2 ^ t) (7 - t) 1 in
-    ap (λ z. eqb z 1) (ap (λ z. z % 2) p ∙ q)
+    let e : x / 256 * 256 + x % 256 ≡ x = omega arith in
+    ap (λ z. eqb z 1) (sym (bit_at_cat_low (x / 256) 8 (x % 256) t l)) ∙ ap (λ n. has n t) e
 
 -- bit t of byte j, the lightest first
 has_byte : (k x j t : ℕ) → j < k → t < 8 → has (get_or (little_endian k x) j 0) t ≡ has x (8 * j + t)
@@ -68,7 +66,8 @@ ok_laid_out bytes (Ok s) w = laid_out (bitmap s) bytes s.within s.fits w
 ok_laid_out bytes (Err f) w = tt
 
 -- a buffer after a set was written at its front
-pub put_laid_out : (s : Signers) (out after : List ℕ) → after ≡ overlaid out 0 (bitmap_written (bitmap s)) → LaidOut (bitmap s) after
-put_laid_out s out after e =
+pub put_laid_out : (s : Signers) (out after : List ℕ) (r : Result ℕ Refusal) → Written (bitmap s) out after r → OnOk r (LaidOut (bitmap s) after)
+put_laid_out s out after (Err e) w = tt
+put_laid_out s out after (Ok n) w =
     laid_out (bitmap s) after s.within s.fits
-    (ap (take (written_size (bitmap s))) e ∙ take_at (bitmap_written (bitmap s)) _ (written_size (bitmap s)) (length-written (bitmap s)))
+    (ap (take (written_size (bitmap s))) w.2 ∙ take_at (bitmap_written (bitmap s)) _ (written_size (bitmap s)) (length-written (bitmap s)))

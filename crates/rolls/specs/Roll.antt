@@ -1,11 +1,14 @@
 -- The bytes of the keys of a roll. Assumes nothing.
-use Rattle.std.specs.Prelude.{ℕ, List, map, take}
+use Rattle.std.specs.Prelude.{ℕ, List, map}
+use Rattle.buffers.specs.Items.{items}
+use Rattle.keys.specs.declared.check.KeyCheck.{Ghosts}
 use Rattle.rolls.specs.declared.roll.Member.{Member}
+use Rattle.rolls.specs.declared.roll.Roll.{Roll}
 
 -- of a list of raw members
 abbrev pub raw_keys : List Member → List (List ℕ)
 raw_keys ms = map (λ m. m.key.now) ms
 
--- of the first so many keys
-abbrev pub first_keys : {K : Type 0} → (K → List ℕ) → ℕ → List K → List (List ℕ)
-first_keys key n ks = map key (take n ks)
+-- of a roll
+abbrev pub keys_of : {K : Type 0} {C : Ghosts K} → (K → List ℕ) → Roll K C → List (List ℕ)
+keys_of key r = map key (items r.keys)

@@ -2,11 +2,11 @@
 ghost use Rattle.std.specs.Prelude.{◌≡◌};
 ghost use Rattle.rolls.specs.Quorum.{quorum as quorum_of};
 
-/// Faults under which a quorum holds: fewer than a third of the members, or fewer than a fifth.
-#[derive(Clone, Copy)]
+/// Faults under which a quorum holds: fewer than a third of the members, or fewer than a fifth, by its number.
+#[derive(Clone, Copy, PartialEq, Eq)]
 pub enum Faults {
-    N3f1,
-    N5f1,
+    N3f1 = 3,
+    N5f1 = 5,
 }
 
 impl Faults {
@@ -14,10 +14,6 @@ impl Faults {
     pub fn quorum(self, members: u32) -> u32
         ensures { result ≡ quorum_of self members }
     {
-        let others = members.saturating_sub(1);
-        match self {
-            Faults::N3f1 => members - others / 3,
-            Faults::N5f1 => members - others / 5,
-        }
+        members - members.saturating_sub(1) / self as u32
     }
 }

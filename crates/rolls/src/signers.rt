@@ -7,7 +7,7 @@ mod reading;
 mod writing;
 
 /// The members of a set, as the bits of a number: no bit stands at or above the length.
-#[derive(Clone, Copy)]
+#[derive(Clone, Copy, PartialEq, Eq)]
 pub struct Signers {
     len: usize,
     bits: u64,

@@ -1,82 +1,65 @@
 // A roll from raw members.
-ghost use Rattle.std.specs.Prelude.{◌≡◌, ℕ, ◌<◌, ◌≤◌, true, false, [], length, MatchOption, MatchResult, slice_index_or};
+ghost use Rattle.std.specs.Prelude.{◌≡◌, ℕ, ◌<◌, ◌≤◌, true, false, [], map, length, MatchOption, MatchResult, slice_index_or};
 ghost use Rattle.refusals.specs.declared.refusal.Refusal.TheVariants.{BadRoll};
-ghost use Rattle.rolls.specs.Enrolled.{before, fine, Enrolled, Refused};
-ghost use Rattle.rolls.specs.Roll.{raw_keys, first_keys};
+ghost use Rattle.rolls.specs.Enrolled.{before, Enrolled, Refused};
+ghost use Rattle.rolls.specs.Roll.{raw_keys, keys_of};
 
 use super::{Member, Roll};
+use buffers::Bounded;
 use keys::KeyCheck;
 use refusals::{MAX_MEMBERS, Refusal};
 
-// Whether one key stands before another: by their bytes, a key before what it is the front of.
-fn stands_before(low: &[u8], high: &[u8]) -> bool
-    ensures { result ≡ before low.now high.now }
+// Whether a key stands above the one before it, if there is one: by their bytes, a key above its front.
+fn stands_above(below: Option<&[u8]>, key: &[u8]) -> bool
+    ensures { MatchOption below.entry (result ≡ true) (λ b. result ≡ before b.now key.now) }
 {
-    for (i, x) in low.iter().enumerate() {
-        if i >= high.len() {
-            return false;
-        }
-        if *x != high[i] {
-            return *x < high[i];
-        }
-    }
-    low.len() < high.len()
-}
-
-// The key of a member that is one, and above the member before.
-fn member<K: KeyCheck>(members: &[Member<'_>], index: usize) -> Option<K>
-    requires { index < length members.now }
-    ensures { MatchOption result (fine K.KeyCheck.meaning.is_key (raw_keys members.now) index ≡ false) (λ k. (fine K.KeyCheck.meaning.is_key (raw_keys members.now) index ≡ true) × (K.KeyCheck.key k ≡ slice_index_or (raw_keys members.now) index [])) }
-{
-    let key = members[index].key;
-    if index > 0 && !stands_before(members[index - 1].key, key) {
-        return None;
-    }
-    K::from_bytes(key)
+    below.is_none_or(|below| below < key)
 }
 
 impl<K: KeyCheck> Roll<K> {
     /// The roll of some members: each has a key, above that of the member before.
     pub fn new(members: &[Member<'_>]) -> Result<Roll<K>, Refusal>
-        ensures { MatchResult result (λ roll. (first_keys K.KeyCheck.key roll.len roll.keys ≡ raw_keys members.now) × Enrolled K.KeyCheck.meaning.is_key (raw_keys members.now)) (λ e. (index : ℕ) × (e ≡ BadRoll index) × Refused K.KeyCheck.meaning.is_key (raw_keys members.now) index) }
+        ensures { MatchResult result (λ roll. (keys_of K.KeyCheck.key roll ≡ raw_keys members.now) × Enrolled K.KeyCheck.meaning.is_key (raw_keys members.now)) (λ e. (index : ℕ) × (e ≡ BadRoll index) × Refused K.KeyCheck.meaning.is_key (raw_keys members.now) index) }
     {
-        if members.len() == 0 {
-            return Err(Refusal::BadRoll { index: 0 });
-        }
         if members.len() > MAX_MEMBERS {
             return Err(Refusal::BadRoll { index: MAX_MEMBERS });
         }
-        let Some(first) = member::<K>(members, 0) else {
+        let Some(first) = members.first().and_then(|first| K::from_bytes(first.key)) else {
             return Err(Refusal::BadRoll { index: 0 });
         };
-        let mut keys = [first; MAX_MEMBERS];
-        for index in 1..members.len() {
-            let Some(key) = member::<K>(members, index) else {
+        let mut keys = Bounded::new(first);
+        let mut below: Option<&[u8]> = None;
+        for (index, member) in members.iter().enumerate() {
+            if !stands_above(below, member.key) {
+                return Err(Refusal::BadRoll { index });
+            }
+            let Some(key) = K::from_bytes(member.key) else {
                 return Err(Refusal::BadRoll { index });
             };
-            keys[index] = key;
+            let _ = keys.push(key);
+            below = Some(member.key);
         }
-        Ok(Roll {
-            keys,
-            len: members.len(),
-        })
+        Ok(Roll { keys })
+    }
+
+    /// The members' keys, in order.
+    pub fn keys(&self) -> &[K]
+        ensures { map K.KeyCheck.key result.now ≡ keys_of K.KeyCheck.key self.now }
+    {
+        self.keys.as_slice()
     }
 
     /// How many members there are.
     pub fn len(&self) -> usize
-        ensures { result ≡ self.now.len }
+        ensures { result ≡ length (keys_of K.KeyCheck.key self.now) }
     {
-        self.len
+        self.keys().len()
     }
 
     /// A member's key.
     pub fn key(&self, index: usize) -> Option<K>
-        ensures { MatchOption result (self.now.len ≤ index) (λ k. (index < self.now.len) × (K.KeyCheck.key k ≡ slice_index_or (first_keys K.KeyCheck.key self.now.len self.now.keys) index [])) }
+        ensures { MatchOption result (length (keys_of K.KeyCheck.key self.now) ≤ index) (λ k. (index < length (keys_of K.KeyCheck.key self.now)) × (K.KeyCheck.key k ≡ slice_index_or (keys_of K.KeyCheck.key self.now) index [])) }
     {
-        if index < self.len {
-            Some(self.keys[index])
-        } else {
-            None
-        }
+        self.keys().get(index).copied()
     }
 }

@@ -4,7 +4,6 @@ ghost use Rattle.rolls.specs.Gathered.{Gathered, Unfit};
 ghost use Rattle.rolls.specs.Signers.{bitmap};
 
 use super::Signers;
-use super::members::bit;
 use refusals::{MAX_MEMBERS, Refusal};
 
 impl Signers {
@@ -15,17 +14,19 @@ impl Signers {
         if length > MAX_MEMBERS {
             return Err(Refusal::TooMany { limit: MAX_MEMBERS });
         }
-        let mut bits: u64 = 0;
-        for member in members {
-            let index = *member;
+        let mut signers = Signers {
+            len: length,
+            bits: 0,
+        };
+        for &index in members {
             if index as usize >= length {
                 return Err(Refusal::UnknownSigner { index });
             }
-            if bit(bits, index) {
+            if signers.contains(index) {
                 return Err(Refusal::DuplicateSigner { index });
             }
-            bits |= 1u64 << index;
+            signers.bits |= 1u64 << index;
         }
-        Ok(Signers { len: length, bits })
+        Ok(signers)
     }
 }

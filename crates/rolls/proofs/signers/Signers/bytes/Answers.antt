@@ -1,5 +1,7 @@
+use Rattle.std.proofs.Common.{◌∙◌}
 use Rattle.rolls.proofs.Writings.{sixteen}
 use Rattle.rolls.proofs.signers.Signers.bytes.Goals as goal
 
 pub returns : goal.returns
-returns c = sixteen c.args.self.now.len c.args.self.now.bits c.to_be_bytes-len.result c.to_le_bytes-bits.result c.to_be_bytes-len.ensures c.to_le_bytes-bits.ensures
+returns c =
+    sixteen c.args.self.now.len c.args.self.now.bits _ _ (c.copy_from_slice.ensures.after ∙ c.to_be_bytes.ensures) (c.copy_from_slice-2.ensures.after ∙ c.to_le_bytes.ensures)

@@ -1,10 +1,11 @@
-use Rattle.std.proofs.Common.{⊎_elim, arith}
-use Rattle.std.proofs.lemmas.Bool.{cases_lt}
-use Rattle.rolls.proofs.BitLaws.{has_above}
+use Rattle.std.proofs.Common.{◌≡◌, true, false, rules, tests}
+use Rattle.std.proofs.lemmas.Iterator.{first_from_Range}
+use Rattle.rolls.specs.Bitmap.{has}
+use Rattle.rolls.proofs.BitLaws.{first_set}
 use Rattle.rolls.proofs.signers.Signers.next_member.Goals as goal
 
 pub returns : goal.returns
-returns c i h =
-    ⊎_elim (λ l. c.loop-index.invariant i h l)
-    (λ l. has_above c.args.self.now.len c.args.self.now.bits i c.args.self.now.fits (omega (arith, c.loop-index-test.false)))
-    (cases_lt i c.loop-index.index)
+returns c =
+    let bits = c.args.self.now.bits in
+    first_set c.args.self.now.len bits c.args.from c.find.result c.args.self.now.fits
+    (first_from_Range _ _ _ _ (λ i. has bits i ≡ true) (λ i. has bits i ≡ false) c.find.ensures.ran (λ x q k. search (rules, tests)) (λ x q k. search (rules, tests)))

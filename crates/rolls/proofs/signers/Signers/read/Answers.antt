@@ -1,46 +1,61 @@
-use Rattle.std.proofs.Common.{◌≡◌, ◌-◌, length, take, drop, Err, sym, ap, ◌∙◌, arith}
-use Rattle.std.proofs.lemmas.List.{take_rest}
-use Rattle.std.specs.Int.Digits.{number_from_digits}
-use Rattle.refusals.specs.declared.fault.FaultKind.TheVariants.{EndOfBuffer, InvalidLength}
-use Rattle.rolls.specs.Bitmap.{read_bits}
-use Rattle.rolls.proofs.Readings.{big_front, read_short, read_long, read_front, ok_written, ok_back}
+use Rattle.std.proofs.Common.{◌≡◌, ◌<◌, ◌≤◌, length, take, min, ap, ◌∙◌, Err, arith, ok_or}
+use Rattle.std.proofs.lemmas.Slice.{between_from_start}
+use Rattle.keys.specs.Bytes.{little_number}
+use Rattle.std.proofs.lemmas.Option.{MatchOption-at_some, MatchOption-at_none}
+use Rattle.std.proofs.lemmas.Result.{err_from_is_err_and}
+use Rattle.rolls.specs.Bitmap.{bitmap_size}
+use Rattle.rolls.proofs.Readings.{split_is, bits-short, bits-made, read_short, read_long, read_behind, handed, ok_written, ok_back}
 use Rattle.rolls.proofs.Placing.{ok_laid_out}
 use Rattle.rolls.proofs.signers.Signers.read.Goals as goal
 
-pub returns-then-bytes-lt8 : goal.returns-then-bytes-lt8
-returns-then-bytes-lt8 c =
-    let e = sym (read_short c.args.limit c.args.bytes.now c.if-bytes-lt8.true) in
-    record {
-      read = e;
-      written = tt;
-      laid_out = tt;
-      reads_back = ok_back c.args.limit c.args.bytes.now (Err (record { kind = EndOfBuffer; place = 0 })) e;
-    }
+pub returns-in_err-len-clause-read : goal.returns-in_err-len-clause-read
+returns-in_err-len-clause-read c =
+    handed c.split_first_chunk.result c.from_residual.result _ _ _ _ (err_from_is_err_and c.from_residual.result c.from_residual.ensures.1)
+    c.in_err-len.ensures.value c.in_err-len.ensures.ok_part c.fault.ensures
+    (read_short c.args.limit c.args.bytes.now (MatchOption-at_none _ _ c.in_err-len.ensures.ok_part c.split_first_chunk.ensures.cases))
 
-pub returns-then-len-min : goal.returns-then-len-min
-returns-then-len-min c =
-    let l : c.from_be_bytes-len.result ≡ number_from_digits 256 (take 8 c.args.bytes.now) =
-    c.from_be_bytes-len.ensures ∙ sym (big_front c.args.bytes.now c.if-bytes-lt8.false) in
-    let e = sym (read_long c.args.limit c.args.bytes.now c.if-bytes-lt8.false (omega (arith, c.min.ensures, c.if-len-min.true))) in
-    record {
-      read = e;
-      written = tt;
-      laid_out = tt;
-      reads_back = ok_back c.args.limit c.args.bytes.now (Err (record { kind = InvalidLength; place = 0 })) e;
-    }
+pub returns-in_err-len-clause-reads_back : goal.returns-in_err-len-clause-reads_back
+returns-in_err-len-clause-reads_back c = ok_back c.args.limit c.args.bytes.now c.from_residual.result (returns-in_err-len-clause-read c)
 
-pub returns : goal.returns
-returns c =
-    let l : c.from_be_bytes-len.result ≡ number_from_digits 256 (take 8 c.args.bytes.now) =
-    c.from_be_bytes-len.ensures ∙ sym (big_front c.args.bytes.now c.if-bytes-lt8.false) in
-    let e = c.read_bits.ensures
-    ∙ ap (λ n. read_bits n (take (length c.args.bytes.now - 8) (drop 8 c.args.bytes.now))) l
-    ∙ ap (read_bits (number_from_digits 256 (take 8 c.args.bytes.now))) (take_rest c.args.bytes.now 8)
-    ∙ sym (read_front c.args.limit c.args.bytes.now c.if-bytes-lt8.false (omega (arith, c.min.ensures, c.if-len-min.false))) in
-    let w = ok_written c.args.limit c.args.bytes.now c.read_bits.result (λ i. (c.type_inv.bytes i).fits) e in
-    record {
-      read = e;
-      written = w;
-      laid_out = ok_laid_out c.args.bytes.now c.read_bits.result w;
-      reads_back = ok_back c.args.limit c.args.bytes.now c.read_bits.result e;
-    }
+pub returns-then-len-min-clause-read : goal.returns-then-len-min-clause-read
+returns-then-len-min-clause-read c =
+    let s = split_is c.args.bytes.now _ _ c.from_be_bytes-len.result (MatchOption-at_some _ _ _ c.in_ok-len.ensures.ok_part c.split_first_chunk.ensures.cases) c.from_be_bytes-len.ensures in
+    ap Err c.fault-then-len-min.ensures ∙ read_long c.args.limit c.args.bytes.now c.from_be_bytes-len.result s.eight s.number (omega (arith, c.min.ensures, c.if-len-min.true))
+
+pub returns-then-len-min-clause-reads_back : goal.returns-then-len-min-clause-reads_back
+returns-then-len-min-clause-reads_back c = ok_back c.args.limit c.args.bytes.now (Err c.fault-then-len-min.result) (returns-then-len-min-clause-read c)
+
+pub returns-in_err-bits-clause-read : goal.returns-in_err-bits-clause-read
+returns-in_err-bits-clause-read c =
+    let s = split_is c.args.bytes.now _ _ c.from_be_bytes-len.result (MatchOption-at_some _ _ _ c.in_ok-len.ensures.ok_part c.split_first_chunk.ensures.cases) c.from_be_bytes-len.ensures in
+    let l : length c.in_ok-len.rest.now < bitmap_size c.from_be_bytes-len.result =
+    omega (arith, c.div_ceil.ensures, MatchOption-at_none _ _ c.in_err-bits.ensures.ok_part c.get.ensures.lookup.0) in
+    handed c.get.result c.from_residual-in_err-bits.result _ _ _ _ (err_from_is_err_and c.from_residual-in_err-bits.result c.from_residual-in_err-bits.ensures.1)
+    c.in_err-bits.ensures.value c.in_err-bits.ensures.ok_part c.fault-2.ensures
+    (bits-short c.from_be_bytes-len.result c.in_ok-len.rest.now l
+    ∙ read_behind c.args.limit c.args.bytes.now c.in_ok-len.rest.now c.from_be_bytes-len.result s (omega (arith, c.min.ensures, c.if-len-min.false)))
+
+pub returns-in_err-bits-clause-reads_back : goal.returns-in_err-bits-clause-reads_back
+returns-in_err-bits-clause-reads_back c = ok_back c.args.limit c.args.bytes.now c.from_residual-in_err-bits.result (returns-in_err-bits-clause-read c)
+
+pub returns-clause-read : goal.returns-clause-read
+returns-clause-read c =
+    let s = split_is c.args.bytes.now _ _ c.from_be_bytes-len.result (MatchOption-at_some _ _ _ c.in_ok-len.ensures.ok_part c.split_first_chunk.ensures.cases) c.from_be_bytes-len.ensures in
+    let g = MatchOption-at_some _ _ _ c.in_ok-bits.ensures.ok_part c.get.ensures.lookup.0 in
+    let few : c.from_be_bytes-len.result ≤ min c.args.limit 64 = omega (arith, c.min.ensures, c.if-len-min.false) in
+    let k : c.div_ceil.result ≡ bitmap_size c.from_be_bytes-len.result = omega (arith, c.div_ceil.ensures) in
+    let b : c.in_ok-bits.bits.now ≡ take (bitmap_size c.from_be_bytes-len.result) c.in_ok-len.rest.now =
+    g.2 ∙ between_from_start c.in_ok-len.rest.now c.div_ceil.result ∙ ap (λ m. take m c.in_ok-len.rest.now) k in
+    bits-made c.from_be_bytes-len.result c.in_ok-len.rest.now c.little.result c.of.result c.ok_or-3.result (omega arith) (omega (arith, g.1))
+    (c.little.ensures ∙ ap little_number b) c.of.ensures (c.ok_or-3.ensures.value ∙ ap (ok_or c.of.result) c.fault-3.ensures)
+    ∙ read_behind c.args.limit c.args.bytes.now c.in_ok-len.rest.now c.from_be_bytes-len.result s few
+
+pub returns-clause-written : goal.returns-clause-written
+returns-clause-written c =
+    ok_written c.args.limit c.args.bytes.now c.ok_or-3.result (λ i. (c.type_inv.bytes i).fits) (returns-clause-read c)
+
+pub returns-clause-laid_out : goal.returns-clause-laid_out
+returns-clause-laid_out c = ok_laid_out c.args.bytes.now c.ok_or-3.result (returns-clause-written c)
+
+pub returns-clause-reads_back : goal.returns-clause-reads_back
+returns-clause-reads_back c = ok_back c.args.limit c.args.bytes.now c.ok_or-3.result (returns-clause-read c)

@@ -3,9 +3,10 @@ use Rattle.rolls.proofs.Writings.{put_written}
 use Rattle.rolls.proofs.Placing.{put_laid_out}
 use Rattle.rolls.proofs.signers.Signers.write.Goals as goal
 
-pub returns-in-Some : goal.returns-in-Some
-returns-in-Some c =
-    let e = c.in-Some.ensures in
-    let w = put_written (bitmap c.args.self.now) c.args.out.now c.put.new.out c.bytes-bytes.result c.size-size.result c.in-Some.size
-    c.args.self.now.within c.size-size.ensures c.bytes-bytes.ensures e.0 e.2 in
-    record { written = (w.0, e.1, w.1); laid_out = put_laid_out c.args.self.now c.args.out.now c.put.new.out w.1 }
+pub returns-clause-written : goal.returns-clause-written
+returns-clause-written c =
+    put_written (bitmap c.args.self.now) c.args.out.now c.put.new.out c.bytes.result c.size-size.result c.put.result c.ok_or.result
+    c.args.self.now.within c.size-size.ensures c.bytes.ensures c.put.ensures c.ok_or.ensures.value
+
+pub returns-clause-laid_out : goal.returns-clause-laid_out
+returns-clause-laid_out c = put_laid_out c.args.self.now c.args.out.now c.put.new.out c.ok_or.result (returns-clause-written c)

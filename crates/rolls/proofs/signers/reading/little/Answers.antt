@@ -1,7 +1,8 @@
-use Rattle.rolls.proofs.Readings.{laid_over, little_is}
+use Rattle.std.proofs.Common.{ℕ, ◌++◌, length, drop, replicate, ap}
+use Rattle.rolls.proofs.Readings.{little_is}
 use Rattle.rolls.proofs.signers.reading.little.Goals as goal
 
 pub returns : goal.returns
 returns c =
-    little_is c.args.bytes.now c.put.new.out c.from_le_bytes.result c.requires
-    (laid_over c.args.bytes.now c.put.new.out c.put.result c.requires c.put.ensures) c.from_le_bytes.ensures
+    let after = drop (length c.args.bytes.now) (replicate {A = ℕ} 8 0) in
+    little_is c.args.bytes.now (c.copy_from_slice.new.self ++ after) c.from_le_bytes.result c.requires (ap (λ z. z ++ after) c.copy_from_slice.ensures.after) c.from_le_bytes.ensures
