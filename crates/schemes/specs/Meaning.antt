@@ -1,5 +1,6 @@
 -- What a scheme means, and its laws. Assumes nothing.
-use Rattle.std.specs.Prelude.{◌≡◌, ℕ, ◌+◌, ◌<◌, ◌≤◌, min, max, Bool, true, false, cond, ◌||◌, ◌⊎◌, List, [], ◌∷◌, length, take, drop, is_ok, Some, None, Ok, Err, Option, Result, nat_lt}
+use Rattle.std.specs.Prelude.{◌≡◌, ℕ, ◌+◌, ◌<◌, ◌≤◌, min, max, Bool, true, false, not, cond, ◌||◌, List, [], ◌∷◌, map, filter, All, Any, length, take, drop, is_ok, Some, None, Ok, Err, Option, Result, nat_lt}
+use Rattle.std.specs.List.Sorted.{IsStrictlyIncreasing}
 use Rattle.refusals.specs.Limits.{max_members, max_message, max_attestations, max_signature}
 use Rattle.refusals.specs.declared.refusal.Refusal.{Refusal}
 use Rattle.refusals.specs.declared.refusal.Refusal.TheVariants.{UnknownSigner, DuplicateSigner, MalformedSignature, InsufficientAttestations, SmallBuffer, TooMany}
@@ -20,8 +21,7 @@ abbrev pub mark : Attestation → Mark
 mark a = (a.signer, signed a.signature)
 
 abbrev pub signers : List Mark → List ℕ
-signers [] = []
-signers (x ∷ xs) = x.0 ∷ signers xs
+signers xs = map (λ x. x.0) xs
 
 pub record Meaning : Type 1 where
   pub judging : Judging
@@ -42,27 +42,13 @@ pub record Meaning : Type 1 where
   -- the weights still to come tell every mark of the list that is not good
   pub separate : Said → List Mark → (ℕ → Weight) → Type 0
 
-abbrev pub EveryMark : (Mark → Type 0) → List Mark → Type 0
-EveryMark P [] = Unit {0}
-EveryMark P (x ∷ xs) = P x × EveryMark P xs
-
-abbrev pub SomeMark : (Mark → Type 0) → List Mark → Type 0
-SomeMark P [] = ⊥
-SomeMark P (x ∷ xs) = P x ⊎ SomeMark P xs
-
--- each above the one before, from a bound on
-abbrev pub Rising : ℕ → List ℕ → Type 0
-Rising low [] = Unit {0}
-Rising low (x ∷ xs) = (low ≤ x) × Rising (x + 1) xs
-
 abbrev pub has_repeat : List ℕ → Bool
 has_repeat [] = false
 has_repeat (x ∷ xs) = among x xs || has_repeat xs
 
 -- the marks of members who are not among some
 abbrev pub without : List ℕ → List Mark → List Mark
-without out [] = []
-without out (x ∷ xs) = cond (among x.0 out) (without out xs) (x ∷ without out xs)
+without out xs = filter (λ x. not (among x.0 out)) xs
 
 module _ (m : Meaning) where
   -- the first item that is no member's, or does not decode
@@ -97,9 +83,9 @@ module _ (m : Meaning) where
 
   -- the members that verify_attestations lists: each has an attestation that is not good; with separating weights these are all
   pub record Listed (t : Said) (xs : List Mark) (w : ℕ → Weight) (out : List ℕ) : Type 0 where
-    pub rising : Rising 0 out
-    pub bad : (i : ℕ) → among i out ≡ true → SomeMark (λ x. (x.0 ≡ i) × (m.good t x.0 x.1 ≡ false)) xs
-    pub all : m.separate t xs w → (i : ℕ) → SomeMark (λ x. (x.0 ≡ i) × (m.good t x.0 x.1 ≡ false)) xs → among i out ≡ true
+    pub rising : IsStrictlyIncreasing out
+    pub bad : (i : ℕ) → among i out ≡ true → Any (λ x. (x.0 ≡ i) × (m.good t x.0 x.1 ≡ false)) xs
+    pub all : m.separate t xs w → (i : ℕ) → Any (λ x. (x.0 ≡ i) × (m.good t x.0 x.1 ≡ false)) xs → among i out ≡ true
 
   -- why verify_attestations is refused: a long message, then too many attestations, then too little room
   abbrev pub refusal : Said → List Mark → ℕ → Option Refusal
@@ -123,7 +109,7 @@ module _ (m : Meaning) where
     pub single : has_repeat (signers xs) ≡ false
 
   abbrev pub Good : Said → List Mark → Type 0
-  Good t xs = EveryMark (λ x. m.good t x.0 x.1 ≡ true) xs
+  Good t xs = All (λ x. m.good t x.0 x.1 ≡ true) xs
 
   pub record Laws : Type 0 where
     pub some : 1 ≤ m.judging.members
@@ -139,5 +125,5 @@ module _ (m : Meaning) where
     pub round : (xs : List Mark) → Proper xs → m.quorum ≤ length xs → m.judging.reads m.judging.members (m.written (m.assembled xs)) ≡ Ok (m.assembled xs)
     pub names : (xs : List Mark) → Proper xs → m.quorum ≤ length xs → (i : ℕ) → among i (named (m.assembled xs)) ≡ among i (signers xs)
     pub accepts : (t : Said) (xs : List Mark) → Proper xs → m.quorum ≤ length xs → Good t xs → m.judging.accepted t (m.assembled xs) ≡ true
-    pub apart : (t : Said) (xs ys : List Mark) → Proper xs → Proper ys → Rising 0 (signers xs) → Rising 0 (signers ys) → m.quorum ≤ length xs → m.quorum ≤ length ys
+    pub apart : (t : Said) (xs ys : List Mark) → Proper xs → Proper ys → IsStrictlyIncreasing (signers xs) → IsStrictlyIncreasing (signers ys) → m.quorum ≤ length xs → m.quorum ≤ length ys
         → Good t xs → Good t ys → m.assembled xs ≡ m.assembled ys → xs ≡ ys

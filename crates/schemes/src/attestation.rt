@@ -8,7 +8,8 @@ pub struct Attestation {
 }
 
 /// How much of each of the two lent listings is the answer.
-#[derive(Clone, Copy)]
+// Counts and no slices: a listing that the result borrows from has no `.new` in a contract.
+#[derive(Clone, Copy, PartialEq, Eq)]
 pub struct Verification {
     pub invalid: usize,
     pub verified: usize,

@@ -36,13 +36,14 @@ pub trait Verifier {
 }
 
 /// A message and a certificate, or why the certificate could not be read.
-#[derive(Clone, Copy)]
+#[derive(Clone, Copy, PartialEq, Eq)]
 pub struct Entry<'a, C> {
     pub message: &'a [u8],
     pub certificate: Result<C, BundleFault>,
 }
 
 /// Entries to be judged: how many, and the entry at a place.
+// By place: over the bound of an iterator, a public function would need a `requires` that it ends.
 pub trait Entries {
     type Certificate: Certificate;
 

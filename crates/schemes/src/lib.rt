@@ -10,7 +10,9 @@ mod subject;
 
 pub use attestation::{Attestation, Verification};
 pub use certificate::{Certificate, Entries, Entry, Verifier};
-pub use namespace::{EditionNamespace, Namespace, PlainNamespace};
+pub use namespace::{
+    EditionMark, EditionNamespace, Namespace, Plain, PlainNamespace, Suffix, Suffixed,
+};
 pub use payload::write_payload;
 pub use scheme::Scheme;
 pub use subject::{Edition, Message, Subject};

@@ -1,12 +1,13 @@
 // Namespaces: what a subject's kind makes of a scheme's base namespace.
-ghost use Rattle.std.specs.Prelude.{◌≡◌, ℕ, ◌<◌, ◌≤◌, List, length, take, MatchResult};
-ghost use Rattle.std.proofs.Common.{lit≤};
+ghost use Rattle.std.specs.Prelude.{◌≡◌, ℕ, ◌<◌, ◌≤◌, List, ◌++◌, length, MatchResult};
+ghost use Rattle.buffers.specs.Items.{items};
 ghost use Rattle.refusals.specs.Limits.{max_namespace};
 ghost use Rattle.schemes.specs.Subjects.{plain, edition, longest};
 ghost use Rattle.schemes.specs.Namespaces.{cut_short};
 
-use keys::put;
+use buffers::Bounded;
 use refusals::{MAX_NAMESPACE, Refusal};
+use std::marker::PhantomData;
 
 pub trait Namespace: Copy {
     // The namespace that is derived from a base.
@@ -23,72 +24,76 @@ pub trait Namespace: Copy {
         ensures { result.now ≡ bytes self.now };
 }
 
-/// The base as it is.
-#[derive(Clone, Copy)]
-pub struct PlainNamespace {
-    len: usize,
-    bytes: [u8; MAX_NAMESPACE],
-    ghost within: { len ≤ 64 },
-    ghost long: { length bytes ≡ 64 },
+/// What a kind of subject puts behind a base.
+pub trait Suffix {
+    ghost derived: { List ℕ → List ℕ };
+
+    fn suffix() -> &'static [u8]
+        ensures behind { (base : List ℕ) → derived base ≡ base ++ result.now }
+        ensures short { length result.now ≤ 2 };
 }
 
-impl Namespace for PlainNamespace {
+/// No suffix.
+pub struct Plain;
+
+impl Suffix for Plain {
     ghost derived = { plain };
 
-    ghost bytes = { λ n. take n.len n.bytes };
-
-    ghost short = { λ n. cut_short n.len n.bytes 64 n.within (lit≤ tt) };
-
-    fn derive(base: &[u8]) -> Result<PlainNamespace, Refusal> {
-        let mut bytes = [0u8; MAX_NAMESPACE];
-        match put(&mut bytes, 0, base) {
-            Some(len) => Ok(PlainNamespace { len, bytes }),
-            None => Err(Refusal::TooMany {
-                limit: MAX_NAMESPACE,
-            }),
-        }
-    }
-
-    fn as_slice(&self) -> &[u8] {
-        &self.bytes[0..self.len]
+    fn suffix() -> &'static [u8] {
+        b""
     }
 }
 
-const MAX_EDITION_NAMESPACE: usize = 66;
+/// The suffix `-E`.
+pub struct EditionMark;
 
-/// The base, then `-E`.
-#[derive(Clone, Copy)]
-pub struct EditionNamespace {
-    len: usize,
-    bytes: [u8; MAX_EDITION_NAMESPACE],
-    ghost within: { len ≤ 66 },
-    ghost long: { length bytes ≡ 66 },
-}
-
-impl Namespace for EditionNamespace {
+impl Suffix for EditionMark {
     ghost derived = { edition };
 
-    ghost bytes = { λ n. take n.len n.bytes };
+    fn suffix() -> &'static [u8] {
+        b"-E"
+    }
+}
 
-    ghost short = { λ n. cut_short n.len n.bytes 66 n.within (lit≤ tt) };
+// The most bytes of a base with its suffix.
+const MAX_DERIVED: usize = MAX_NAMESPACE + 2;
 
-    fn derive(base: &[u8]) -> Result<EditionNamespace, Refusal> {
+/// A base with a suffix behind it.
+#[derive_where(Clone, Copy)]
+pub struct Suffixed<S> {
+    bytes: Bounded<u8, MAX_DERIVED>,
+    kind: PhantomData<S>,
+}
+
+/// The base as it is.
+pub type PlainNamespace = Suffixed<Plain>;
+
+/// The base, then `-E`.
+pub type EditionNamespace = Suffixed<EditionMark>;
+
+impl<S: Suffix> Namespace for Suffixed<S> {
+    ghost derived = { S.Suffix.derived };
+
+    ghost bytes = { λ n. items n.bytes };
+
+    ghost short = { λ n. cut_short n.bytes };
+
+    fn derive(base: &[u8]) -> Result<Suffixed<S>, Refusal> {
         if base.len() > MAX_NAMESPACE {
             return Err(Refusal::TooMany {
                 limit: MAX_NAMESPACE,
             });
         }
-        let mut bytes = [0u8; MAX_EDITION_NAMESPACE];
-        let _ = put(&mut bytes, 0, base);
-        let _ = put(&mut bytes, base.len(), b"-E");
-        Ok(EditionNamespace {
-            len: base.len() + 2,
+        let mut bytes = Bounded::new(0);
+        let _ = bytes.extend_from_slice(base);
+        let _ = bytes.extend_from_slice(S::suffix());
+        Ok(Suffixed {
             bytes,
+            kind: PhantomData,
         })
     }
 
     fn as_slice(&self) -> &[u8] {
-        let len = self.len;
-        &self.bytes[0..len]
+        self.bytes.as_slice()
     }
 }

@@ -18,10 +18,6 @@ pub trait Scheme: Verifier {
     // The own member, where there is a key to sign with.
     ghost signer: { Self → Option ℕ };
 
-    // Does nothing: it says that both traits judge alike.
-    fn agrees(&self)
-        ensures { (meaning self.now).judging ≡ Self.Verifier.judging self.now };
-
     fn quorum(&self) -> usize
         ensures { result ≡ (meaning self.now).quorum };
 
@@ -60,4 +56,6 @@ pub trait Scheme: Verifier {
 
     fn write(&self, certificate: &Self::Certificate, out: &mut [u8]) -> Result<usize, Refusal>
         ensures { Written (meaning self.now) (Self.Certificate.Certificate.parts certificate.now) out.old out.new result };
+
+    ghost agrees: { (s : Self) → (meaning s).judging ≡ Self.Verifier.judging s };
 }

@@ -1,10 +1,8 @@
 // Subjects, and the namespaces that they are signed under.
-ghost use Rattle.std.specs.Prelude.{◌≡◌, ◌<◌, ◌++◌};
-ghost use Rattle.keys.specs.Bytes.{big_endian};
+ghost use Rattle.std.specs.Prelude.{◌≡◌};
 ghost use Rattle.schemes.specs.Subjects.{Said, edition_message};
 
 use crate::namespace::{EditionNamespace, Namespace};
-use keys::put;
 use std::marker::PhantomData;
 
 pub trait Subject {
@@ -13,14 +11,17 @@ pub trait Subject {
     ghost said: { Self → Said };
 
     fn namespace<'a>(&self, derived: &'a Self::Namespace) -> &'a [u8]
-        ensures { result.now ≡ Self.Namespace.Namespace.bytes derived.now };
+        ensures { result.now ≡ Self.Namespace.Namespace.bytes derived.now }
+    {
+        derived.as_slice()
+    }
 
     fn message(&self) -> &[u8]
         ensures { result.now ≡ (said self.now).message };
 }
 
 /// A message of any bytes, under the namespaces of a kind of subject.
-#[derive(Clone, Copy)]
+#[derive_where(Clone, Copy, PartialEq, Eq)]
 pub struct Message<'a, N> {
     bytes: &'a [u8],
     kind: PhantomData<N>,
@@ -42,10 +43,6 @@ impl<'a, N: Namespace> Subject for Message<'a, N> {
 
     ghost said = { λ s. record { message = s.bytes.now } };
 
-    fn namespace<'b>(&self, derived: &'b N) -> &'b [u8] {
-        derived.as_slice()
-    }
-
     fn message(&self) -> &[u8] {
         self.bytes
     }
@@ -53,17 +50,8 @@ impl<'a, N: Namespace> Subject for Message<'a, N> {
 
 const EDITION_MESSAGE: usize = 72;
 
-fn heading(channel: u16, day: u32, number: u16) -> [u8; 8]
-    ensures { result ≡ big_endian 2 channel ++ (big_endian 4 day ++ big_endian 2 number) }
-{
-    let c = channel.to_be_bytes();
-    let d = day.to_be_bytes();
-    let n = number.to_be_bytes();
-    [c[0], c[1], d[0], d[1], d[2], d[3], n[0], n[1]]
-}
-
 /// An edition of a channel's schedule.
-#[derive(Clone, Copy)]
+#[derive(Clone, Copy, PartialEq, Eq)]
 pub struct Edition {
     bytes: [u8; EDITION_MESSAGE],
 }
@@ -73,9 +61,12 @@ impl Edition {
     pub fn from_digest(channel: u16, seconds: u32, number: u16, digest: &[u8; 64]) -> Edition
         ensures { result.bytes ≡ edition_message channel seconds number digest.now }
     {
+        let day = seconds / 86_400;
         let mut bytes = [0u8; EDITION_MESSAGE];
-        let _ = put(&mut bytes, 0, &heading(channel, seconds / 86_400, number));
-        let _ = put(&mut bytes, 8, digest);
+        bytes[0..2].copy_from_slice(&channel.to_be_bytes());
+        bytes[2..6].copy_from_slice(&day.to_be_bytes());
+        bytes[6..8].copy_from_slice(&number.to_be_bytes());
+        bytes[8..].copy_from_slice(digest);
         Edition { bytes }
     }
 }
@@ -84,10 +75,6 @@ impl Subject for Edition {
     type Namespace = EditionNamespace;
 
     ghost said = { λ s. record { message = s.bytes } };
-
-    fn namespace<'b>(&self, derived: &'b EditionNamespace) -> &'b [u8] {
-        derived.as_slice()
-    }
 
     fn message(&self) -> &[u8] {
         &self.bytes
