@@ -1,14 +1,12 @@
 -- A list certificate is read just where it was written. Assumes nothing.
-use Rattle.std.proofs.Common.{◌≡◌, ℕ, zero, suc, ◌+◌, ◌*◌, ◌≤◌, min, cond, eqb, ltb, ◌≢◌, List, [], ◌∷◌, ◌++◌, length, take, drop, IfOk, Ok, Err, Result, sym, refl, ap, ◌∙◌, subst, zero-mul, arith}
+use Rattle.std.proofs.Common.{◌≡◌, ℕ, zero, suc, ◌+◌, ◌*◌, ◌≤◌, min, eqb, ltb, ◌≢◌, List, [], ◌∷◌, ◌++◌, length, take, drop, IfOk, Ok, Err, Result, sym, refl, ap, ◌∙◌, subst, zero-mul, arith}
 use Rattle.std.proofs.lemmas.List.{append_assoc, append-nil, length-append, length-drop, length-take-le, take-append-drop, take_at, drop_at, drop-drop, drop_all}
-use Rattle.std.proofs.lemmas.Bool.{le-ltb, ltb-false, eqb-true, eqb-false}
+use Rattle.std.proofs.lemmas.Bool.{le-ltb, eq-eqb, ltb-false, eqb-true, eqb-false}
 use Rattle.std.specs.List.{AllByRecursion, concat}
 use Rattle.refusals.specs.Limits.{max_members}
 use Rattle.refusals.specs.Results.{map_ok}
 use Rattle.refusals.specs.declared.fault.BitmapFault.{BitmapFault}
 use Rattle.refusals.specs.declared.fault.CertificateFault.{CertificateFault}
-use Rattle.refusals.specs.declared.fault.FaultKind.TheVariants.{EndOfBuffer}
-use Rattle.refusals.specs.declared.fault.Layer.TheVariants.{Signatures}
 use Rattle.refusals.proofs.Unrefused.{never, past, kept, from_mapped}
 use Rattle.keys.proofs.Octets.{Octets}
 use Rattle.keys.specs.Varint.{varint, read_varint}
@@ -25,30 +23,27 @@ use Rattle.rolls.proofs.Writings.{length-written}
 use Rattle.schemes.specs.Judging.{Parts}
 use Rattle.list_scheme.specs.declared.certificate.ListCertificate.{ListCertificate}
 use Rattle.list_scheme.specs.Certificate.{parts}
-use Rattle.list_scheme.specs.Reading.{fault, signatures, finished, listed, signed_by, read_list}
+use Rattle.list_scheme.specs.Reading.{signatures, finished, listed, signed_by, read_list}
 use Rattle.list_scheme.specs.Writing.{list_written, Readable}
-use Rattle.list_scheme.proofs.FieldByField.{signatures-length, behind_all, finished-whole}
+use Rattle.list_scheme.proofs.FieldByField.{reads_signatures}
 
 -- signatures in a row are read one by one
 joined_back : (width : ℕ) (ss : List (List ℕ)) (at : ℕ) → AllByRecursion (λ s. length s ≡ width) ss → signatures width (length ss) at (concat ss) ≡ Ok ss
 joined_back width [] at w = refl
 joined_back width (s ∷ ss) at w =
     let long : width ≤ length (s ++ concat ss) = simp length-append (omega (arith, w.0)) in
-    let front = take_at s (concat ss) width w.0 in
-    let back = drop_at s (concat ss) width w.0 in
-    ap (λ t. cond t (Err (fault EndOfBuffer Signatures at)) (map_ok (λ zs. take width (s ++ concat ss) ∷ zs) (signatures width (length ss) (at + width) (drop width (s ++ concat ss))))) (le-ltb (length (s ++ concat ss)) width long)
-    ∙ (λ i. map_ok (λ zs. front i ∷ zs) (signatures width (length ss) (at + width) (back i)))
-    ∙ ap (map_ok (λ zs. s ∷ zs)) (joined_back width ss (at + width) w.1)
+    rw (le-ltb (length (s ++ concat ss)) width long, take_at s (concat ss) width w.0, drop_at s (concat ss) width w.0, joined_back width ss (at + width) w.1) refl
 
 -- and what was read stood in a row
-pub record Row (width k : ℕ) (bs : List ℕ) (ss : List (List ℕ)) : Type 0 where
+record Row (width k : ℕ) (bs : List ℕ) (ss : List (List ℕ)) : Type 0 where
+  pub count : length ss ≡ k
   pub stands : concat ss ++ drop (k * width) bs ≡ bs
   pub wide : AllByRecursion (λ s. length s ≡ width) ss
 
 row : (width k at : ℕ) (bs : List ℕ) (ss : List (List ℕ)) → signatures width k at bs ≡ Ok ss → Row width k bs ss
 row width zero at bs ss h =
     let none : ◌≡◌ {A = List (List ℕ)} [] ss = cc in
-    subst (Row width zero bs) none (record { stands = ap (λ n. drop n bs) (zero-mul width); wide = tt })
+    subst (Row width zero bs) none (record { count = refl; stands = ap (λ n. drop n bs) (zero-mul width); wide = tt })
 row width (suc k) at bs ss h =
     let long = past (ltb (length bs) width) _ _ ss h in
     let more = from_mapped (λ zs. take width bs ∷ zs) _ ss long.1 in
@@ -60,6 +55,7 @@ row width (suc k) at bs ss h =
         let on : suc k * width ≡ width + k * width = omega arith in
         let behind = ap (λ n. drop n bs) on ∙ sym (drop-drop (k * width) width bs) in
         record {
+          count = ap suc rest.count;
           stands =
               append_assoc (take width bs) (concat zs) (drop (suc k * width) bs)
               ∙ ap (λ t. take width bs ++ (concat zs ++ t)) behind ∙ ap (λ t. take width bs ++ t) rest.stands ∙ take-append-drop width bs;
@@ -68,53 +64,53 @@ row width (suc k) at bs ss h =
 
 -- what is read was written, and can be read
 module _ (width bound : ℕ) (bs : List ℕ) (octets : Octets bs) where
-  all_read : (b : Bitmap) → read_bitmap bound bs ≡ Ok b → length (members b) ≢ 0 → (v : Varint) → read_varint (drop (written_size b) bs) ≡ Ok v
-      → (ss : List (List ℕ)) → signatures width v.value (written_size b + v.size) (drop (written_size b + v.size) bs) ≡ Ok ss
-      → length (members b) ≡ length ss → length bs ≤ written_size b + v.size + v.value * width
-      → Readable width bound (record { bitmap = b; signatures = ss }) × (bs ≡ list_written (record { bitmap = b; signatures = ss }))
-  unfolding list_written
-  all_read b eb some v ev ss es paired total =
-      let r = read_from bound bs b eb in
-      let count = signatures-length width v.value (written_size b + v.size) (drop (written_size b + v.size) bs) ss es in
-      let short = subst (Shortest (drop (written_size b) bs)) ev (reads_shortest (drop (written_size b) bs)) in
-      let stood = row width v.value (written_size b + v.size) (drop (written_size b + v.size) bs) ss es in
-      let long = length-drop (written_size b + v.size) bs in
-      let none : drop (v.value * width) (drop (written_size b + v.size) bs) ≡ [] = drop_all (v.value * width) (drop (written_size b + v.size) bs) (omega arith) in
-      let last : drop (written_size b + v.size) bs ≡ concat ss = sym stood.stands ∙ ap (λ t. concat ss ++ t) none ∙ append-nil (concat ss) in
-      let counted : take v.size (drop (written_size b) bs) ≡ varint (length ss) = short.0 ∙ ap varint (sym count) in
-      let left : drop v.size (drop (written_size b) bs) ≡ concat ss = drop-drop v.size (written_size b) bs ∙ last in
-      let middle : drop (written_size b) bs ≡ varint (length ss) ++ concat ss = sym (take-append-drop v.size (drop (written_size b) bs)) ∙ (λ i. counted i ++ left i) in
-      let front = read_written bound bs b octets eb in (
-        record { within = r.few; below = r.fits; somebody = omega arith; paired = sym paired; wide = stood.wide },
-        sym (take-append-drop (written_size b) bs) ∙ (λ i. front i ++ middle i),
-      )
+  abbrev Canonical : Parts → Type 0
+  Canonical p = Readable width bound p × (bs ≡ list_written p)
 
-  module _ (p : Parts) where
-    at_signatures : (b : Bitmap) → read_bitmap bound bs ≡ Ok b → length (members b) ≢ 0 → (v : Varint) → read_varint (drop (written_size b) bs) ≡ Ok v
-        → (r : Result (List (List ℕ)) CertificateFault) → signatures width v.value (written_size b + v.size) (drop (written_size b + v.size) bs) ≡ r
-        → finished b (written_size b) (written_size b + v.size + v.value * width) (length bs) r ≡ Ok p → Readable width bound p × (bs ≡ list_written p)
-    at_signatures b eb some v ev (Err f) es h = never (cc)
-    at_signatures b eb some v ev (Ok ss) es h =
-        let same = kept (eqb (length (members b)) (length ss)) _ _ p h in
-        let all = past (ltb (written_size b + v.size + v.value * width) (length bs)) _ _ p same.1 in
-        let is : ◌≡◌ {A = Parts} (record { bitmap = b; signatures = ss }) p = cc in
-        subst (λ q. Readable width bound q × (bs ≡ list_written q)) is
-        (all_read b eb some v ev ss es (eqb-true (length (members b)) (length ss) same.0) (ltb-false (written_size b + v.size + v.value * width) (length bs) all.0))
+  module _ (b : Bitmap) (eb : read_bitmap bound bs ≡ Ok b) (some : length (members b) ≢ 0) where
+    module _ (v : Varint) (ev : read_varint (drop (written_size b) bs) ≡ Ok v) where
+      all_read : (ss : List (List ℕ)) → signatures width v.value (written_size b + v.size) (drop (written_size b + v.size) bs) ≡ Ok ss
+          → length (members b) ≡ length ss → length bs ≤ written_size b + v.size + v.value * width → Canonical (record { bitmap = b; signatures = ss })
+      unfolding list_written
+      all_read ss es paired total =
+          let r = read_from bound bs b eb in
+          let short = subst (Shortest (drop (written_size b) bs)) ev (reads_shortest (drop (written_size b) bs)) in
+          let stood = row width v.value (written_size b + v.size) (drop (written_size b + v.size) bs) ss es in
+          let long = length-drop (written_size b + v.size) bs in
+          let none : drop (v.value * width) (drop (written_size b + v.size) bs) ≡ [] = drop_all (v.value * width) (drop (written_size b + v.size) bs) (omega arith) in
+          let last : drop (written_size b + v.size) bs ≡ concat ss = sym stood.stands ∙ ap (λ t. concat ss ++ t) none ∙ append-nil (concat ss) in
+          let counted : take v.size (drop (written_size b) bs) ≡ varint (length ss) = short.0 ∙ ap varint (sym stood.count) in
+          let left : drop v.size (drop (written_size b) bs) ≡ concat ss = drop-drop v.size (written_size b) bs ∙ last in
+          let middle : drop (written_size b) bs ≡ varint (length ss) ++ concat ss = sym (take-append-drop v.size (drop (written_size b) bs)) ∙ (λ i. counted i ++ left i) in
+          let front = read_written bound bs b octets eb in (
+            record { within = r.few; below = r.fits; somebody = omega arith; paired = sym paired; wide = stood.wide },
+            sym (take-append-drop (written_size b) bs) ∙ (λ i. front i ++ middle i),
+          )
 
-    at_count : (b : Bitmap) → read_bitmap bound bs ≡ Ok b → length (members b) ≢ 0 → (r : Result Varint VarintFault) → read_varint (drop (written_size b) bs) ≡ r
-        → listed width bound b (written_size b) bs r ≡ Ok p → Readable width bound p × (bs ≡ list_written p)
-    at_count b eb some (Err f) ev h = never (cc)
-    at_count b eb some (Ok v) ev h = at_signatures b eb some v ev _ refl (past (ltb (min bound max_members) v.value) _ _ p h).1
+      at_signatures : (p : Parts) (r : Result (List (List ℕ)) CertificateFault) → signatures width v.value (written_size b + v.size) (drop (written_size b + v.size) bs) ≡ r
+          → finished b (written_size b) (written_size b + v.size + v.value * width) (length bs) r ≡ Ok p → Canonical p
+      at_signatures p (Err f) es h = never (cc)
+      at_signatures p (Ok ss) es h =
+          let same = kept (eqb (length (members b)) (length ss)) _ _ p h in
+          let all = past (ltb (written_size b + v.size + v.value * width) (length bs)) _ _ p same.1 in
+          let is : ◌≡◌ {A = Parts} (record { bitmap = b; signatures = ss }) p = cc in
+          subst Canonical is (all_read ss es (eqb-true (length (members b)) (length ss) same.0) (ltb-false (written_size b + v.size + v.value * width) (length bs) all.0))
 
-    at_bitmap : (r : Result Bitmap BitmapFault) → read_bitmap bound bs ≡ r → signed_by width bound bs r ≡ Ok p → Readable width bound p × (bs ≡ list_written p)
-    at_bitmap (Err f) eb h = never (cc)
-    at_bitmap (Ok b) eb h =
-        let some = past (eqb (length (members b)) 0) _ _ p h in
-        at_count b eb (eqb-false (length (members b)) 0 some.0) _ refl some.1
+    at_count : (p : Parts) (r : Result Varint VarintFault) → read_varint (drop (written_size b) bs) ≡ r → listed width bound b (written_size b) bs r ≡ Ok p → Canonical p
+    at_count p (Err f) ev h = never (cc)
+    at_count p (Ok v) ev h = at_signatures v ev p _ refl (past (ltb (min bound max_members) v.value) _ _ p h).1
 
-    pub canonical : read_list width bound bs ≡ Ok p → Readable width bound p × (bs ≡ list_written p)
-    unfolding read_list
-    canonical h = at_bitmap (read_bitmap bound bs) refl h
+  at_bitmap : (p : Parts) (r : Result Bitmap BitmapFault) → read_bitmap bound bs ≡ r → signed_by width bound bs r ≡ Ok p → Canonical p
+  at_bitmap p (Err f) eb h = never (cc)
+  at_bitmap p (Ok b) eb h =
+      let some = past (eqb (length (members b)) 0) _ _ p h in
+      at_count b eb (eqb-false (length (members b)) 0 some.0) p _ refl some.1
+
+  -- of an answer
+  pub ok_canonical : (r : Result ListCertificate CertificateFault) → map_ok parts r ≡ read_list width bound bs → IfOk r (λ c. Readable width bound (parts c) × (bs ≡ list_written (parts c)))
+  unfolding read_list
+  ok_canonical (Ok c) h = at_bitmap (parts c) (read_bitmap bound bs) refl (sym h)
+  ok_canonical (Err f) h = tt
 
 -- what is written is read again
 length-joined : (width : ℕ) (ss : List (List ℕ)) → AllByRecursion (λ s. length s ≡ width) ss → length (concat ss) ≡ length ss * width
@@ -138,13 +134,8 @@ reads_back width bound p h =
     let ev = ap read_varint behind ∙ varints.reads_back (length ss) (concat ss) (omega arith) in
     let last : drop (at + size) bs ≡ concat ss = sym (drop-drop size at bs) ∙ ap (drop size) behind ∙ drop_at (varint (length ss)) (concat ss) size refl in
     let es = ap (signatures width (length ss) (at + size)) last ∙ joined_back width ss (at + size) h.wide in
-    let all = behind_all width bound bs b at eb some refl (record { value = length ss; size = size }) ev small ss (at + size + length ss * width) es refl in
     let long : length bs ≡ at + size + length ss * width =
     length-append (bitmap_written b) tail ∙ (λ i. length-written b i + (length-append (varint (length ss)) (concat ss) ∙ ap (λ n. size + n) (length-joined width ss h.wide)) i) ∙ omega arith in
-    all.1 ∙ finished-whole b at (at + size + length ss * width) (length bs) ss (sym h.paired) (omega arith)
-
--- the same of a certificate's value
-pub ok_canonical : (width bound : ℕ) (bs : List ℕ) → Octets bs → (r : Result ListCertificate CertificateFault) → map_ok parts r ≡ read_list width bound bs
-    → IfOk r (λ c. Readable width bound (parts c) × (bs ≡ list_written (parts c)))
-ok_canonical width bound bs octets (Ok c) h = canonical width bound bs octets (parts c) (sym h)
-ok_canonical width bound bs octets (Err f) h = tt
+    reads_signatures width bound bs b eb some (record { value = length ss; size = size }) ev small
+    ∙ ap (finished b at (at + size + length ss * width) (length bs)) es
+    ∙ rw (eq-eqb (length (members b)) (length ss) (sym h.paired), le-ltb (at + size + length ss * width) (length bs) (omega arith)) refl

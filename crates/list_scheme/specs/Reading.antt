@@ -9,10 +9,9 @@ use Rattle.refusals.specs.declared.fault.FaultKind.{FaultKind}
 use Rattle.refusals.specs.declared.fault.FaultKind.TheVariants.{EndOfBuffer, InvalidLength, Invalid, ExtraData}
 use Rattle.refusals.specs.declared.fault.Layer.{Layer}
 use Rattle.refusals.specs.declared.fault.Layer.TheVariants.{Signatures, Certificate}
-use Rattle.keys.specs.Varint.{read_varint}
+use Rattle.keys.specs.Varint.{read_varint, fault_kind}
 use Rattle.keys.specs.declared.varint.Varint.{Varint}
 use Rattle.keys.specs.declared.varint.VarintFault.{VarintFault}
-use Rattle.keys.specs.declared.varint.VarintFault.TheVariants as varints
 use Rattle.rolls.specs.Bitmap.{Bitmap, members, read_bitmap}
 use Rattle.rolls.specs.Signers.{written_size}
 use Rattle.schemes.specs.Judging.{Parts}
@@ -37,8 +36,7 @@ finished b at end total (Ok ss) =
 
 -- a count that could not be read, at a place
 abbrev pub misread : VarintFault → ℕ → CertificateFault
-misread varints.EndOfBuffer at = fault EndOfBuffer Signatures at
-misread varints.Invalid at = fault Invalid Signatures at
+misread f at = fault (fault_kind f) Signatures at
 
 -- the count is at most the bound
 abbrev pub listed : ℕ → ℕ → Bitmap → ℕ → List ℕ → Result Varint VarintFault → Result Parts CertificateFault

@@ -7,6 +7,7 @@ ghost use Rattle.rolls.specs.Signers.{bitmap};
 ghost use Rattle.list_scheme.specs.Certificate.{parts};
 
 use crate::certificate::ListCertificate;
+use buffers::Bounded;
 use keys::Signature;
 use refusals::{MAX_MEMBERS, Refusal};
 use rolls::Signers;
@@ -16,17 +17,12 @@ impl ListCertificate {
     pub fn new(signers: Signers, signatures: &[Signature]) -> Result<ListCertificate, Refusal>
         ensures { MatchResult result (λ c. (length signatures.now ≤ max_members) × (parts c ≡ record { bitmap = bitmap signers; signatures = map signed signatures.now })) (λ e. (max_members < length signatures.now) × (e ≡ TooMany max_members)) }
     {
-        if signatures.len() > MAX_MEMBERS {
-            return Err(Refusal::TooMany { limit: MAX_MEMBERS });
-        }
-        let mut table = [Signature::new(&[]); MAX_MEMBERS];
-        for (i, signature) in signatures.iter().enumerate() {
-            table[i] = *signature;
-        }
+        let mut list = Bounded::new(Signature::new(&[]));
+        list.extend_from_slice(signatures)
+            .ok_or(Refusal::TooMany { limit: MAX_MEMBERS })?;
         Ok(ListCertificate {
             signers,
-            signatures: table,
-            count: signatures.len(),
+            signatures: list,
         })
     }
 
@@ -34,10 +30,6 @@ impl ListCertificate {
     pub fn len(&self) -> usize
         ensures { result ≡ length (parts self.now).signatures }
     {
-        if self.count < MAX_MEMBERS {
-            self.count
-        } else {
-            MAX_MEMBERS
-        }
+        self.signatures.as_slice().len()
     }
 }

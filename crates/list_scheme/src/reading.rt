@@ -1,24 +1,19 @@
 // Reading a list certificate, field by field.
-ghost use Rattle.std.specs.Prelude.{◌≡◌, ℕ, ◌+◌, ◌*◌, ◌≤◌, min, length, drop, IfOk, Ok, Err, MatchResult};
+ghost use Rattle.std.specs.Prelude.{◌≡◌, ℕ, ◌+◌, ◌*◌, ◌≤◌, List, min, map, length, drop, OnOk, Ok, Err, MatchResult};
+ghost use Rattle.buffers.specs.Items.{items};
+ghost use Rattle.keys.specs.Signed.{signed};
 ghost use Rattle.keys.specs.Varint.{read_varint};
 ghost use Rattle.refusals.specs.Limits.{max_members};
 ghost use Rattle.refusals.specs.Results.{map_ok};
 ghost use Rattle.rolls.specs.Bitmap.{Bitmap};
-ghost use Rattle.list_scheme.specs.Certificate.{first_signed, parts};
-ghost use Rattle.list_scheme.specs.Reading.{signatures as signatures_of, fault as fault_of, misread as misread_of, listed, read_list};
+ghost use Rattle.list_scheme.specs.Certificate.{parts};
+ghost use Rattle.list_scheme.specs.Reading.{signatures as signatures_of, fault as fault_of, listed, read_list};
 
 use crate::certificate::ListCertificate;
-use keys::{Signature, Varint, VarintFault, read_varint};
+use buffers::{Bounded, Rest};
+use keys::{Signature, read_varint};
 use refusals::{CertificateFault, FaultKind, Layer, MAX_MEMBERS};
 use rolls::Signers;
-
-// Signatures, and the place behind them.
-#[derive(Clone, Copy)]
-pub(crate) struct Found {
-    pub(crate) signatures: [Signature; MAX_MEMBERS],
-    pub(crate) count: usize,
-    pub(crate) end: usize,
-}
 
 fn fault(kind: FaultKind, layer: Layer, place: usize) -> CertificateFault
     ensures { result ≡ fault_of kind layer place }
@@ -26,64 +21,48 @@ fn fault(kind: FaultKind, layer: Layer, place: usize) -> CertificateFault
     CertificateFault { kind, layer, place }
 }
 
-// So many signatures of a width, from a place on.
+// So many signatures of a width.
 fn signatures(
-    bytes: &[u8],
-    start: usize,
+    rest: &mut Rest<'_>,
     count: usize,
     width: usize,
-) -> Result<Found, CertificateFault>
-    requires within { start ≤ length bytes.now }
+) -> Result<Bounded<Signature, MAX_MEMBERS>, CertificateFault>
     requires few { count ≤ 64 }
     requires narrow { width ≤ 64 }
-    ensures read { map_ok (λ f. first_signed f.count f.signatures) result ≡ signatures_of width count start (drop start bytes.now) }
-    ensures end { IfOk result (λ f. (f.count ≡ count) × (f.end ≡ start + count * width)) }
+    ensures read { map_ok (λ l. map signed (items l)) result ≡ signatures_of width count rest.old.place rest.old.bytes.now }
+    ensures rest { OnOk result ((rest.new.bytes.now ≡ drop (count * width) rest.old.bytes.now) × (rest.new.place ≡ rest.old.place + count * width)) }
 {
-    let mut signatures = [Signature::new(&[]); MAX_MEMBERS];
-    let mut at = start;
-    for i in 0..count {
-        if bytes.len() - at < width {
-            return Err(fault(FaultKind::EndOfBuffer, Layer::Signatures, at));
-        }
-        let end = at + width;
-        signatures[i] = Signature::new(&bytes[at..end]);
-        at = end;
+    let mut list = Bounded::new(Signature::new(&[]));
+    for _ in 0..count {
+        let place = rest.place();
+        let bytes = rest
+            .take(width)
+            .ok_or(fault(FaultKind::EndOfBuffer, Layer::Signatures, place))?;
+        list.push(Signature::new(bytes)).unwrap();
     }
-    Ok(Found {
-        signatures,
-        count,
-        end: at,
-    })
+    Ok(list)
 }
 
-// A count that could not be read, at a place.
-fn misread(varint: VarintFault, at: usize) -> CertificateFault
-    ensures { result ≡ misread_of varint at }
+// How many signatures follow.
+fn count(rest: &mut Rest<'_>, bound: usize) -> Result<usize, CertificateFault>
+    ensures { MatchResult result (λ n. (n ≤ min bound max_members) × ((size : ℕ) × (read_varint rest.old.bytes.now ≡ Ok (record { value = n; size = size })) × (rest.new.bytes.now ≡ drop size rest.old.bytes.now) × (rest.new.place ≡ rest.old.place + size))) (λ f. (width : ℕ) (b : Bitmap) (bs : List ℕ) → listed width bound b rest.old.place bs (read_varint rest.old.bytes.now) ≡ Err f) }
 {
-    match varint {
-        VarintFault::EndOfBuffer => fault(FaultKind::EndOfBuffer, Layer::Signatures, at),
-        VarintFault::Invalid => fault(FaultKind::Invalid, Layer::Signatures, at),
+    let place = rest.place();
+    let count = read_varint(rest.bytes()).map_err(|varint| fault(
+        varint.into(),
+        Layer::Signatures,
+        place,
+    ))?;
+    if count.value as usize > bound.min(MAX_MEMBERS) {
+        return Err(fault(FaultKind::InvalidLength, Layer::Signatures, place));
     }
-}
-
-// How many signatures follow, at a place.
-fn count(bytes: &[u8], at: usize, bound: usize) -> Result<Varint, CertificateFault>
-    requires { at ≤ length bytes.now }
-    ensures { MatchResult result (λ v. (read_varint (drop at bytes.now) ≡ Ok v) × (v.value ≤ min bound max_members) × (at + v.size ≤ length bytes.now)) (λ f. (width : ℕ) (b : Bitmap) → listed width bound b at bytes.now (read_varint (drop at bytes.now)) ≡ Err f) }
-{
-    match read_varint(&bytes[at..]) {
-        Ok(count) => {
-            if count.value as usize > bound.min(MAX_MEMBERS) {
-                return Err(fault(FaultKind::InvalidLength, Layer::Signatures, at));
-            }
-            Ok(count)
-        }
-        Err(varint) => Err(misread(varint, at)),
-    }
+    rest.take(count.size).unwrap();
+    Ok(count.value as usize)
 }
 
 impl ListCertificate {
     // A certificate of at most so many members, with signatures of a width.
+    #[tactic(auto, unfolding(crate::specs::Reading::read_list))]
     pub(crate) fn read(
         bytes: &[u8],
         bound: usize,
@@ -96,20 +75,20 @@ impl ListCertificate {
         if signers.count() == 0 {
             return Err(fault(FaultKind::Invalid, Layer::Certificate, 0));
         }
-        let at = signers.size();
-        let listed = count(bytes, at, bound)?;
-        let found = signatures(bytes, at + listed.size, listed.value as usize, width)?;
-        if signers.count() != found.count {
+        let mut rest = Rest::new(bytes);
+        rest.take(signers.size()).unwrap();
+        let at = rest.place();
+        let listed = count(&mut rest, bound)?;
+        let signatures = signatures(&mut rest, listed, width)?;
+        if signers.count() != signatures.as_slice().len() {
             return Err(fault(FaultKind::Invalid, Layer::Certificate, at));
         }
-        if found.end < bytes.len() {
-            return Err(fault(FaultKind::ExtraData, Layer::Certificate, found.end));
+        if !rest.bytes().is_empty() {
+            return Err(fault(FaultKind::ExtraData, Layer::Certificate, rest.place()));
         }
-        let signatures = found.signatures;
         Ok(ListCertificate {
             signers,
             signatures,
-            count: found.count,
         })
     }
 }

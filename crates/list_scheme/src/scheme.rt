@@ -1,14 +1,14 @@
 // The list scheme, over any key check and any kind of subject.
-ghost use Rattle.std.specs.Prelude.{◌≡◌, ◌<◌, true, length, IfOk, Ok};
-ghost use Rattle.rolls.specs.Roll.{first_keys, raw_keys};
-ghost use Rattle.list_scheme.specs.Accepted.{each_good, list_fits, list_judging};
+ghost use Rattle.std.specs.Prelude.{◌≡◌, true, IfOk, Ok};
 ghost use Rattle.refusals.specs.Results.{map_ok};
+ghost use Rattle.rolls.specs.Roll.{keys_of, raw_keys};
 ghost use Rattle.schemes.specs.Judging.{Parts, named};
-ghost use Rattle.list_scheme.specs.Reading.{read_list};
-ghost use Rattle.list_scheme.specs.Writing.{list_written, Readable};
+ghost use Rattle.list_scheme.specs.Accepted.{each_good, list_fits, list_judging};
 ghost use Rattle.list_scheme.specs.Certificate.{parts as parts_of};
 ghost use Rattle.list_scheme.specs.Made.{Made};
+ghost use Rattle.list_scheme.specs.Reading.{read_list};
 ghost use Rattle.list_scheme.specs.Soundness.{list_sound};
+ghost use Rattle.list_scheme.specs.Writing.{list_written, Readable};
 
 use crate::certificate::ListCertificate;
 use keys::{KeyCheck, union_unique};
@@ -30,7 +30,7 @@ impl<K: KeyCheck, N: Namespace> ListScheme<K, N> {
         members: &[Member<'_>],
         faults: Faults,
     ) -> Result<ListScheme<K, N>, Refusal>
-        ensures { Made K.KeyCheck.meaning.is_key namespace.now (raw_keys members.now) (λ s. (first_keys K.KeyCheck.key s.roll.len s.roll.keys ≡ raw_keys members.now) × (s.faults ≡ faults) × (N.Namespace.bytes s.namespace ≡ N.Namespace.derived namespace.now)) result }
+        ensures { Made K.KeyCheck.meaning.is_key namespace.now (raw_keys members.now) (λ s. (keys_of K.KeyCheck.key s.roll ≡ raw_keys members.now) × (s.faults ≡ faults) × (N.Namespace.bytes s.namespace ≡ N.Namespace.derived namespace.now)) result }
     {
         let namespace = N::derive(namespace)?;
         let roll = Roll::new(members)?;
@@ -48,39 +48,29 @@ impl Certificate for ListCertificate {
 
 impl<K: KeyCheck, N: Namespace> ListScheme<K, N> {
     // Whether a certificate is for this roll: its length, as many signatures as members, a quorum.
+    #[tactic(auto, unfolding(crate::specs::Accepted::list_fits))]
     fn fits(&self, certificate: &ListCertificate) -> bool
-        ensures { result ≡ list_fits (first_keys K.KeyCheck.key self.now.roll.len self.now.roll.keys) self.now.faults (parts_of certificate.now) }
+        ensures { result ≡ list_fits (keys_of K.KeyCheck.key self.now.roll) self.now.faults (parts_of certificate.now) }
     {
         let members = self.roll.len();
-        if certificate.signers.len() != members {
-            return false;
-        }
         let count = certificate.signers.count();
-        if count != certificate.len() {
-            return false;
-        }
-        count >= self.faults.quorum(members as u32) as usize
+        certificate.signers.len() == members
+            && count == certificate.len()
+            && count >= self.faults.quorum(members as u32) as usize
     }
 
-    // Whether each member's signature of a payload is good.
+    // Whether each member's signature of a payload is good; a certificate that fits has one for each.
     fn all_good(&self, payload: &[u8], certificate: &ListCertificate) -> bool
-        requires whole { certificate.now.signers.len ≡ self.now.roll.len }
-        requires paired { length (parts_of certificate.now).signatures ≡ length (named (parts_of certificate.now)) }
-        ensures { result ≡ each_good K.KeyCheck.meaning (first_keys K.KeyCheck.key self.now.roll.len self.now.roll.keys) payload.now (named (parts_of certificate.now)) (parts_of certificate.now).signatures }
+        requires { list_fits (keys_of K.KeyCheck.key self.now.roll) self.now.faults (parts_of certificate.now) ≡ true }
+        ensures { result ≡ each_good K.KeyCheck.meaning (keys_of K.KeyCheck.key self.now.roll) payload.now (named (parts_of certificate.now)) (parts_of certificate.now).signatures }
     {
-        let mut at = 0;
-        for member in 0..self.roll.len() {
-            if certificate.signers.contains(member as u32) {
-                let Some(key) = self.roll.key(member) else {
-                    return false;
-                };
-                if !key.verify(payload, certificate.signatures[at].as_slice()) {
-                    return false;
-                }
-                at += 1;
-            }
-        }
-        true
+        self.roll
+            .keys()
+            .iter()
+            .enumerate()
+            .filter(|(member, _)| certificate.signers.contains(*member as u32))
+            .zip(certificate.signatures.as_slice())
+            .all(|((_, key), signature)| key.verify(payload, signature.as_slice()))
     }
 }
 
@@ -89,9 +79,9 @@ impl<K: KeyCheck, N: Namespace> Verifier for ListScheme<K, N> {
 
     type Certificate = ListCertificate;
 
-    ghost judging = { λ s. list_judging K.KeyCheck.meaning (first_keys K.KeyCheck.key s.roll.len s.roll.keys) s.faults (N.Namespace.bytes s.namespace) };
+    ghost judging = { λ s. list_judging K.KeyCheck.meaning (keys_of K.KeyCheck.key s.roll) s.faults (N.Namespace.bytes s.namespace) };
 
-    ghost sound = { λ s. list_sound K.KeyCheck.meaning K.KeyCheck.key s.roll.len s.roll.keys s.faults (N.Namespace.bytes s.namespace) s.roll.some s.roll.within s.roll.long };
+    ghost sound = { λ s. list_sound K.KeyCheck.meaning (keys_of K.KeyCheck.key s.roll) s.faults (N.Namespace.bytes s.namespace) s.roll.enrolled.some s.roll.enrolled.few };
 
     fn members(&self) -> usize {
         self.roll.len()
@@ -106,6 +96,7 @@ impl<K: KeyCheck, N: Namespace> Verifier for ListScheme<K, N> {
         ListCertificate::read(bytes, bound, K::width())
     }
 
+    #[tactic(auto, unfolding(crate::specs::Accepted::list_accepted))]
     fn verify_certificate<B: Subject<Namespace = N>>(
         &self,
         subject: &B,
@@ -120,6 +111,6 @@ impl<K: KeyCheck, N: Namespace> Verifier for ListScheme<K, N> {
         }
         let mut payload = [0u8; MAX_PAYLOAD];
         let size = union_unique(subject.namespace(&self.namespace), message, &mut payload)?;
-        Ok(self.all_good(&payload[0..size], certificate))
+        Ok(self.all_good(&payload[..size], certificate))
     }
 }

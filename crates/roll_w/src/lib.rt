@@ -1,9 +1,10 @@
 // Roll W, the example: the residue keys 2, 3, 5 and 7, fewer than a third faulty, no namespace.
 #![tactic(auto)]
 
-ghost use Rattle.std.specs.Prelude.{◌≡◌, [], take, MatchResult};
+ghost use Rattle.std.specs.Prelude.{◌≡◌, [], MatchResult};
+ghost use Rattle.buffers.specs.Items.{items};
 ghost use Rattle.keys.specs.Bytes.{big_endian};
-ghost use Rattle.rolls.specs.Roll.{first_keys};
+ghost use Rattle.rolls.specs.Roll.{keys_of};
 ghost use Rattle.roll_w.specs.Keys.{keys_of_w};
 
 use keys::ResidueKey;
@@ -13,8 +14,9 @@ use rolls::{Faults, Member};
 use schemes::PlainNamespace;
 
 /// The list scheme of roll W; it is never refused.
+#[tactic(auto, using(crate::proofs::Fine::unrefused))]
 pub fn roll_of_w() -> Result<ListScheme<ResidueKey, PlainNamespace>, Refusal>
-    ensures { MatchResult result (λ s. (first_keys (λ k. big_endian 4 k.value) s.roll.len s.roll.keys ≡ keys_of_w) × (s.faults ≡ Faults.N3f1) × (take s.namespace.len s.namespace.bytes ≡ [])) (λ _. ⊥) }
+    ensures { MatchResult result (λ s. (keys_of (λ k. big_endian 4 k.value) s.roll ≡ keys_of_w) × (s.faults ≡ Faults.N3f1) × (items s.namespace.bytes ≡ [])) (λ _. ⊥) }
 {
     ListScheme::verifier(
         &[],

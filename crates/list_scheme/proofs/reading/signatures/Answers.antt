@@ -1,36 +1,22 @@
-use Rattle.std.proofs.Common.{◌≡◌, ℕ, ◌+◌, ◌*◌, ◌≤◌, length, Err, sym, refl, ap, ◌∙◌, add-mul, one-mul, arith}
-use Rattle.std.proofs.lemmas.List.{length-set}
-use Rattle.list_scheme.proofs.Listing.{copied, ongoing_more, ongoing_short, ongoing_all}
+use Rattle.std.proofs.Common.{◌≡◌, ◌≤◌, [], ◌∷◌, ◌++◌, map, take, length, ap, ◌∙◌, arith}
+use Rattle.std.proofs.lemmas.Grind.{common_steps}
+use Rattle.std.proofs.lemmas.List.{map_push}
+use Rattle.buffers.specs.Items.{items}
+use Rattle.keys.specs.Signed.{signed}
+use Rattle.list_scheme.proofs.Listing.{ongoing_more, ongoing_short, ongoing_all}
 use Rattle.list_scheme.proofs.reading.signatures.Goals as goal
 
-pub returns-then-bytes-at : goal.returns-then-bytes-at
-returns-then-bytes-at c =
-    let i = c.loop-i.invariant in
-    record {
-      read = ap Err c.fault.ensures ∙ sym (ongoing_short c.args.bytes.now c.args.width c.args.count c.args.start c.loop-i.i c.loop-i.at c.loop-i.signatures (omega arith) i.0 (omega arith) i.3);
-      end = tt;
-    }
+pub returns-in_err-bytes-clause-read : goal.returns-in_err-bytes-clause-read
+returns-in_err-bytes-clause-read c = grind (arith, common_steps, ongoing_short)
 
-more : (start i width at : ℕ) → at ≡ start + i * width → at + width ≡ start + (i + 1) * width
-more start i width at e = omega (arith, add-mul i 1 width, one-mul width)
+pub loop-preserved : goal.loop-preserved
+loop-preserved c =
+    let w : c.args.width ≤ length c.loop.rest.bytes.now = grind (arith, common_steps) in
+    let s : signed c.new-in-loop.result ≡ take c.args.width c.loop.rest.bytes.now = grind (arith, common_steps) in
+    let p : items c.push.new.self ≡ items c.loop.list ++ c.new-in-loop.result ∷ [] = grind (arith, common_steps) in
+    ongoing_more _ _ _ _ c.loop.counter c.loop.rest.place c.loop.rest.bytes.now (map signed (items c.loop.list)) c.loop.invariant _ _ _ c.loop-test.true w
+    (grind (arith, common_steps)) (grind (arith, common_steps))
+    (ap (map signed) p ∙ map_push signed (items c.loop.list) c.new-in-loop.result ∙ ap (λ z. map signed (items c.loop.list) ++ z ∷ []) s)
 
-pub loop-i-preserved : goal.loop-i-preserved
-loop-i-preserved c =
-    let i = c.loop-i.invariant in
-    let l : length c.loop-i.signatures ≡ 64 = i.2 in
-    let w : c.loop-i.at + c.args.width ≤ length c.args.bytes.now = omega (arith, i.0) in
-    let s = copied c.args.bytes.now c.args.width c.loop-i.at (c.loop-i.at + c.args.width) c.new.result (omega arith) w refl c.new.ensures in (
-      w,
-      more c.args.start c.loop-i.i c.args.width c.loop-i.at i.1,
-      length-set c.loop-i.signatures c.loop-i.i c.new.result ∙ l,
-      ongoing_more c.args.bytes.now c.args.width c.args.count c.args.start c.loop-i.i c.loop-i.at (c.loop-i.at + c.args.width) c.loop-i.signatures c.new.result (omega arith) (omega arith) w refl s i.3,
-    )
-
-pub returns : goal.returns
-returns c =
-    let i = c.loop-i.invariant in
-    let e : c.loop-i.i ≡ c.args.count = omega arith in
-    record {
-      read = ongoing_all c.args.bytes.now c.args.width c.args.count c.args.start c.loop-i.i c.loop-i.at c.loop-i.signatures e i.3;
-      end = (refl, i.1 ∙ ap (λ n. c.args.start + n * c.args.width) e);
-    }
+pub returns-clause-read : goal.returns-clause-read
+returns-clause-read c = grind (arith, common_steps, ongoing_all)

@@ -1,8 +1,9 @@
-use Rattle.std.proofs.Common.{◌≡◌, ◌+◌, ◌*◌, ◌≤◌, length}
+use Rattle.std.proofs.Common.{map}
+use Rattle.buffers.specs.Items.{items}
+use Rattle.keys.specs.Signed.{signed}
 use Rattle.list_scheme.proofs.Listing.{Ongoing}
 use Rattle.list_scheme.proofs.reading.signatures.Given as goal
 
-abbrev pub invariant-loop-i : goal.invariant-loop-i
-invariant-loop-i l =
-    (l.at ≤ length l.bytes) × (l.at ≡ l.start + l.i * l.width) × (length l.signatures ≡ 64)
-    × Ongoing l.bytes l.width l.count l.start l.i l.at l.signatures
+abbrev pub invariant-loop : goal.invariant-loop
+invariant-loop l =
+    Ongoing l.width l.count l.initial.rest.place l.initial.rest.bytes.now l.counter l.rest.place l.rest.bytes.now (map signed (items l.list))

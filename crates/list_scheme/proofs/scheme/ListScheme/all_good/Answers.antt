@@ -1,69 +1,29 @@
-use Rattle.std.proofs.Common.{◌≡◌, ◌<◌, true, false, [], get_or, drop, sym, ap, ◌∙◌, arith, rules}
-use Rattle.rolls.specs.Bitmap.{members_below}
-use Rattle.rolls.specs.Roll.{first_keys}
-use Rattle.rolls.proofs.MemberLaws.{count_le}
-use Rattle.list_scheme.specs.Accepted.{each_good}
-use Rattle.list_scheme.specs.Certificate.{first_signed}
-use Rattle.list_scheme.proofs.Signing.{going_out, going_in, going_bad, going_all, going_place, signed_at}
+use Rattle.std.proofs.Common.{◌≤◌, length, arith, rules, sym, ap, ◌∙◌}
+use Rattle.std.proofs.iter.Serving.{serving}
+use Rattle.std.proofs.lemmas.List.{length-map}
+use Rattle.std.proofs.lemmas.Iterator.{YieldsList-from_slice, YieldsList-from_zip}
+use Rattle.std.proofs.lemmas.Iterator.Consumers.{YieldsList-at, YieldsList-from_filter, YieldsList-from_enumerate}
+use Rattle.std.proofs.lemmas.Iterator.Search.{all_from_yields_List}
+use Rattle.buffers.specs.Items.{items}
+use Rattle.rolls.specs.Bitmap.{has}
+use Rattle.rolls.specs.Roll.{keys_of}
+use Rattle.list_scheme.specs.Certificate.{parts}
+use Rattle.list_scheme.proofs.Signing.{Fine, good_all, fits_parts}
 use Rattle.list_scheme.proofs.scheme.ListScheme.all_good.Goals as goal
-use Rattle.list_scheme.proofs.scheme.ListScheme.all_good.Goals.{then-contains+in-Some+else-not-verify, else-contains}
 
-pub bounds-certificate-at : goal.bounds-certificate-at
-bounds-certificate-at g c =
-    omega (arith, count_le c.loop-member.member c.args.certificate.now.signers.bits, c.loop-member.invariant.0, c.args.self.now.roll.within)
-
-pub offset_bounds-certificate-at : goal.offset_bounds-certificate-at
-offset_bounds-certificate-at g c =
-    let k : c.loop-member.at < 64 = omega (arith, count_le c.loop-member.member c.args.certificate.now.signers.bits, c.loop-member.invariant.0, c.args.self.now.roll.within) in
-    search rules
-
-pub overflow_add-at : goal.overflow_add-at
-overflow_add-at g c =
-    let k : c.loop-member.at < 64 = omega (arith, count_le c.loop-member.member c.args.certificate.now.signers.bits, c.loop-member.invariant.0, c.args.self.now.roll.within) in
-    search rules
-
-pub returns-then-not-verify : goal.returns-then-not-verify
-returns-then-not-verify g c =
-    let x = c.args.certificate.now in
-    let m = g.K.KeyCheck.meaning in
-    let keys = first_keys g.K.KeyCheck.key c.args.self.now.roll.len c.args.self.now.roll.keys in
-    let ss = first_signed x.count x.signatures in
-    let i = c.loop-member.member in
-    let at = c.loop-member.at in
-    let h : i < x.signers.len = omega (arith, c.requires.whole) in
-    let t = sym c.contains.ensures ∙ c.if-contains.true in
-    let p = going_place m keys c.args.payload.now x.signers.len x.signers.bits ss i at h t c.requires.paired c.loop-member.invariant in
-    let s : c.as_slice.result.now ≡ get_or ss at [] = c.as_slice.ensures ∙ sym (signed_at x.count at x.signatures _ p.0) in
-    let v : m.good (get_or keys i []) c.args.payload.now (get_or ss at []) ≡ false =
-    sym (c.verify.ensures ∙ (λ j. m.good (c.in-Some.ensures.1 j) c.args.payload.now (s j))) ∙ c.if-not-verify.true in
-    going_bad m keys c.args.payload.now x.signers.len x.signers.bits ss i at h t c.requires.paired v c.loop-member.invariant
-
-pub loop-member-preserved : goal.loop-member-preserved
-loop-member-preserved g c =
-    let x = c.args.certificate.now in
-    let m = g.K.KeyCheck.meaning in
-    let keys = first_keys g.K.KeyCheck.key c.args.self.now.roll.len c.args.self.now.roll.keys in
-    let ss = first_signed x.count x.signatures in
-    let ms = members_below x.signers.len x.signers.bits in
-    let i = c.loop-member.member in
-    let at = c.loop-member.at in
-    let h : i < x.signers.len = omega (arith, c.requires.whole) in
-    elim c.if-contains.branch [
-      | then-contains+in-Some+else-not-verify w ↦
-          let t = sym c.contains.ensures ∙ w.if-contains.true in
-          let p = going_place m keys c.args.payload.now x.signers.len x.signers.bits ss i at h t c.requires.paired c.loop-member.invariant in
-          let s : w.as_slice.result.now ≡ get_or ss at [] = w.as_slice.ensures ∙ sym (signed_at x.count at x.signatures _ p.0) in
-          let v : m.good (get_or keys i []) c.args.payload.now (get_or ss at []) ≡ true =
-          sym (w.verify.ensures ∙ (λ j. m.good (w.in-Some.ensures.1 j) c.args.payload.now (s j))) ∙ w.if-not-verify.false in
-          let n = going_in m keys c.args.payload.now x.signers.len x.signers.bits ss i at h t c.requires.paired v c.loop-member.invariant in
-          (w.at-is ∙ n.0, ap (λ z. each_good m keys c.args.payload.now (drop z ms) (drop z ss)) w.at-is ∙ n.1)
-      | else-contains w ↦
-          let n = going_out m keys c.args.payload.now x.signers.len x.signers.bits ss i at (sym c.contains.ensures ∙ w.if-contains.false) c.loop-member.invariant in
-          (w.at-is ∙ n.0, ap (λ z. each_good m keys c.args.payload.now (drop z ms) (drop z ss)) w.at-is ∙ n.1)
-    ]
+pub all-requires-clause-can : goal.all-requires-clause-can
+all-requires-clause-can g c =
+    let few : length c.keys.result.now ≤ 64 = omega (arith, sym (length-map c.keys.result.now g.K.KeyCheck.key) ∙ ap length c.keys.ensures, c.args.self.now.roll.enrolled.few) in
+    grind serving
 
 pub returns : goal.returns
 returns g c =
+    let bits = c.args.certificate.now.signers.bits in
+    let e = all_from_yields_List (Fine g.K.KeyCheck.meaning g.K.KeyCheck.key c.args.payload.now bits) c.all.new.self _ _ c.all.ensures.ran
+    (YieldsList-from_zip {s = c.zip.result}
+    (YieldsList-at c.zip.ensures.first (YieldsList-from_filter _ (λ x. has bits x.0) (YieldsList-at c.filter.ensures.source (YieldsList-from_enumerate (YieldsList-from_slice c.keys.result.now cc) c.enumerate.ensures.count)) c.filter.ensures.closure (λ x b q k. search rules)))
+    (YieldsList-from_slice (items c.args.certificate.now.signatures) cc))
+    (λ x b q k. search rules) in
     let x = c.args.certificate.now in
-    going_all g.K.KeyCheck.meaning (first_keys g.K.KeyCheck.key c.args.self.now.roll.len c.args.self.now.roll.keys) c.args.payload.now x.signers.len x.signers.bits
-    (first_signed x.count x.signatures) c.loop-member.member c.loop-member.at (omega (arith, c.requires.whole)) c.requires.paired c.loop-member.invariant
+    let f = fits_parts (keys_of g.K.KeyCheck.key c.args.self.now.roll) c.args.self.now.faults (parts x) c.requires in
+    e ∙ good_all g.K.KeyCheck.meaning g.K.KeyCheck.key c.args.payload.now bits (keys_of g.K.KeyCheck.key c.args.self.now.roll) x.signers.len c.keys.result.now (items x.signatures) c.keys.ensures f.0 f.1
