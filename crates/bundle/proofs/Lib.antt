@@ -1,6 +1,9 @@
 pub mod Fields
 pub mod Reading
-pub mod Looking
-pub mod Bounds
 pub mod Written
+pub mod Looking
+pub mod Messages
+pub mod Listing
+pub mod Concluding
 pub mod Printing
+pub mod Definitions

@@ -1,4 +1,5 @@
 pub mod Layout
+pub mod Raws
 pub mod Places
 pub mod Verdicts
 pub mod Text

@@ -14,17 +14,15 @@ use std::fmt;
 fn write_lines<W: fmt::Write>(f: &mut fmt::Formatter<W>, verdicts: &[Verdict]) -> fmt::Result
     ensures { WritesOnOk W.Write.write_str_gives f.old result (lines_from 0 verdicts.now) f.new }
 {
-    for (number, verdict) in verdicts.iter().enumerate() {
-        let line = Line {
-            number,
-            verdict: *verdict,
-        };
+    for (number, &verdict) in verdicts.iter().enumerate() {
+        let line = Line { number, verdict };
         writeln!(f, "{line}")?;
     }
     Ok(())
 }
 
 /// The lines of the first verdicts, or the line of a refusal.
+// The whole room and not the listed part: `concluded` says that what lies behind it is unchanged.
 #[derive(Clone, Copy)]
 pub struct Answer<'a> {
     pub judged: Result<usize, Refusal>,
@@ -33,6 +31,7 @@ pub struct Answer<'a> {
 
 impl<'a> Answer<'a> {
     /// Judges an input, with room for the verdicts.
+    #[tactic(auto, using(crate::proofs::Printing::concluded_text))]
     pub fn of<V: Verifier>(verifier: &V, input: &[u8], room: &'a mut [Verdict]) -> Answer<'a>
         ensures concluded { Concluded (V.Verifier.judging verifier.now) input.now room.old result.verdicts.now result.judged }
         ensures text { answer_text result.judged result.verdicts.now ≡ printed (V.Verifier.judging verifier.now) (length room.old) (admitted input.now) }

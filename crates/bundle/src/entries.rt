@@ -24,19 +24,11 @@ impl<'a, V> BundleEntries<'a, V> {
 }
 
 // Reads a certificate that begins at a place.
-fn placed<V: Verifier>(verifier: &V, bytes: &[u8], at: usize) -> Result<V::Certificate, Placed>
-    ensures { map_ok V.Certificate.Certificate.parts result ≡ map_err (λ f. record { fault = f; at = at }) ((V.Verifier.judging verifier.now).reads (V.Verifier.judging verifier.now).members bytes.now) }
-{
-    match verifier.read(bytes, verifier.members()) {
-        Ok(certificate) => Ok(certificate),
-        Err(fault) => Err(Placed { fault, at }),
-    }
-}
-
 fn raise<V: Verifier>(verifier: &V, bytes: &[u8], at: usize) -> Result<V::Certificate, BundleFault>
     ensures { map_ok V.Certificate.Certificate.parts result ≡ map_err (raised at) ((V.Verifier.judging verifier.now).reads (V.Verifier.judging verifier.now).members bytes.now) }
 {
-    Ok(placed(verifier, bytes, at)?)
+    let certificate = verifier.read(bytes, verifier.members());
+    Ok(certificate.map_err(|fault| Placed { fault, at })?)
 }
 
 impl<'a, V: Verifier> Entries for BundleEntries<'a, V> {
@@ -49,19 +41,13 @@ impl<'a, V: Verifier> Entries for BundleEntries<'a, V> {
     }
 
     fn message(&self, place: usize) -> Option<&[u8]> {
-        match self.bundle.raw(place) {
-            Some(raw) => Some(raw.message),
-            None => None,
-        }
+        self.bundle.raw(place).map(|raw| raw.message)
     }
 
     fn entry(&self, place: usize) -> Option<Entry<'_, V::Certificate>> {
-        match self.bundle.raw(place) {
-            Some(raw) => Some(Entry {
-                message: raw.message,
-                certificate: raise(self.verifier, raw.certificate, raw.place),
-            }),
-            None => None,
-        }
+        self.bundle.raw(place).map(|raw| Entry {
+            message: raw.message,
+            certificate: raise(self.verifier, raw.certificate, raw.place),
+        })
     }
 }

@@ -12,14 +12,11 @@ use schemes::{Certificate, Entries, Entry, Message, Subject, Verifier};
 fn messages_fit<E: Entries>(entries: &E) -> bool
     ensures { result ≡ not (some_long (E.Entries.entries entries.now)) }
 {
-    for place in 0..entries.len() {
-        if let Some(message) = entries.message(place) {
-            if message.len() > MAX_MESSAGE {
-                return false;
-            }
-        }
-    }
-    true
+    (0..entries.len()).all(|place| {
+        entries
+            .message(place)
+            .is_none_or(|message| message.len() <= MAX_MESSAGE)
+    })
 }
 
 fn verdict<V: Verifier>(verifier: &V, entry: &Entry<'_, V::Certificate>) -> Verdict
@@ -27,12 +24,13 @@ fn verdict<V: Verifier>(verifier: &V, entry: &Entry<'_, V::Certificate>) -> Verd
     ensures { result ≡ decided (V.Verifier.judging verifier.now) entry.now.message.now (map_ok V.Certificate.Certificate.parts entry.now.certificate) }
 {
     let subject: Message<'_, V::Namespace> = Message::new(entry.message);
-    match entry.certificate {
-        Ok(certificate) => match verifier.verify_certificate(&subject, &certificate) {
-            Ok(true) => Verdict::Accepted,
-            _ => Verdict::Rejected,
-        },
-        Err(fault) => Verdict::Faulty(fault),
+    let certificate = match entry.certificate {
+        Ok(certificate) => certificate,
+        Err(fault) => return Verdict::Faulty(fault),
+    };
+    match verifier.verify_certificate(&subject, &certificate) {
+        Ok(true) => Verdict::Accepted,
+        _ => Verdict::Rejected,
     }
 }
 
@@ -56,9 +54,9 @@ pub fn judge<V: Verifier, E: Entries<Certificate = V::Certificate>>(
     if verdicts.len() < count {
         return Err(Refusal::SmallBuffer { needed: count });
     }
-    for place in 0..count {
+    for (place, slot) in verdicts[..count].iter_mut().enumerate() {
         if let Some(entry) = entries.entry(place) {
-            verdicts[place] = verdict(verifier, &entry);
+            *slot = verdict(verifier, &entry);
         }
     }
     Ok(count)

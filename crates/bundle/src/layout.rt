@@ -1,24 +1,17 @@
-// A bundle's bytes, and where its entries lie in them.
+// A bundle without faults of its own.
+ghost use Rattle.std.specs.Prelude.{map};
+ghost use Rattle.std.proofs.Props.{props};
+ghost use Rattle.buffers.specs.Items.{items};
+ghost use Rattle.bundle.specs.Layout.{Limited};
+ghost use Rattle.bundle.specs.Raws.{raw_of};
+
+use crate::held::RawEntry;
+use buffers::Bounded;
 use refusals::MAX_CERTIFICATES;
 
-/// From a place up to another.
-#[derive(Clone, Copy)]
-pub(crate) struct Span {
-    pub(crate) start: usize,
-    pub(crate) end: usize,
-}
-
-/// Where a message and a certificate lie.
-#[derive(Clone, Copy)]
-pub(crate) struct Spans {
-    pub(crate) message: Span,
-    pub(crate) certificate: Span,
-}
-
-/// A bundle without faults of its own, and where its entries lie.
+/// The entries of a bundle, which lie in its bytes.
 #[derive(Clone, Copy)]
 pub struct Bundle<'a> {
-    pub(crate) bytes: &'a [u8],
-    pub(crate) count: usize,
-    pub(crate) spans: [Spans; MAX_CERTIFICATES],
+    pub(crate) entries: Bounded<RawEntry<'a>, MAX_CERTIFICATES>,
+    ghost limited: { Limited (map raw_of (items entries)) } by { Prim.hlevel props },
 }

@@ -1,22 +1,21 @@
 // Reading a bundle: its own faults are found here, once.
-ghost use Rattle.std.specs.Prelude.{◌≡◌, ◌+◌, ◌<◌, ◌≤◌, List, map, length, drop, IfOk, Ok, Err, MatchResult};
+ghost use Rattle.std.specs.Prelude.{◌≡◌, ◌+◌, ◌<◌, ◌≤◌, ◌⊎◌, List, ◌++◌, map, length, Ok, IfOk, IfErr};
 ghost use Rattle.refusals.specs.Results.{map_ok};
-ghost use Rattle.bundle.specs.Layout.{bundle, bundle_written, Raw, pair_of, Limited, field as field_of, entry as entry_of, size};
-ghost use Rattle.bundle.specs.Places.{part, raw, held_by, pairs_of, Inside, Within};
+ghost use Rattle.keys.specs.Bytes.{big_endian};
+ghost use Rattle.bundle.specs.Layout.{bundle, bundle_written, fault as fault_of, Raw, pair_of, Short, Limited, prefix as prefix_of, max_prefix, field_written, field as field_of, entry as entry_of, size};
+ghost use Rattle.bundle.specs.Raws.{raw_of};
+ghost use Rattle.bundle.specs.Places.{held_by, pairs_of};
 
-use crate::layout::{Bundle, Span, Spans};
+use crate::held::RawEntry;
+use crate::layout::Bundle;
+use buffers::{Bounded, Rest};
 use refusals::{BundleFault, FaultKind, Layer, MAX_CERTIFICATES, MAX_MESSAGE};
 
 /// The most that two bytes hold.
-const MAX_PREFIX: usize = 65_535;
+const MAX_PREFIX: usize = u16::MAX as usize;
 
-const BLANK: Spans = Spans {
-    message: Span { start: 0, end: 0 },
-    certificate: Span { start: 0, end: 0 },
-};
-
-fn fault(kind: FaultKind, place: usize) -> BundleFault
-    ensures { result ≡ record { kind = kind; layer = Layer.Bundle; place = place } }
+pub(crate) fn fault(kind: FaultKind, place: usize) -> BundleFault
+    ensures { result ≡ fault_of kind place }
 {
     BundleFault {
         kind,
@@ -25,37 +24,48 @@ fn fault(kind: FaultKind, place: usize) -> BundleFault
     }
 }
 
-// A field at a place: a length in two bytes, at most a limit, and as many bytes.
-fn field(bytes: &[u8], at: usize, limit: usize) -> Result<Span, BundleFault>
-    requires { at ≤ length bytes.now }
-    ensures { MatchResult result (λ s. (field_of limit at (drop at bytes.now) ≡ Ok (part bytes.now s)) × (s.start ≡ at + 2) × (s.end ≤ s.start + limit) × Inside (length bytes.now) s) (λ f. field_of limit at (drop at bytes.now) ≡ Err f) }
+// Two bytes that say how long or how many, at most a limit.
+fn prefix(rest: &mut Rest<'_>, limit: usize) -> Result<usize, BundleFault>
+    ensures left { IfOk result (λ n. rest.old.bytes.now ≡ big_endian 2 n ++ rest.new.bytes.now) }
+    ensures place { IfOk result (λ n. rest.new.place ≡ rest.old.place + 2) }
+    ensures limited { IfOk result (λ n. (n ≤ limit) × (n ≤ max_prefix)) }
+    ensures fault { IfErr result (λ f. ((length rest.old.bytes.now < 2) × (f ≡ fault_of FaultKind.EndOfBuffer rest.old.place)) ⊎ ((2 ≤ length rest.old.bytes.now) × (limit < prefix_of rest.old.bytes.now) × (f ≡ fault_of FaultKind.InvalidLength rest.old.place))) }
 {
-    if bytes.len() - at < 2 {
-        return Err(fault(FaultKind::EndOfBuffer, at));
+    let place = rest.place();
+    let Some([high, low]) = rest.take(2) else {
+        return Err(fault(FaultKind::EndOfBuffer, place));
+    };
+    let number = usize::from(u16::from_be_bytes([*high, *low]));
+    if number > limit {
+        return Err(fault(FaultKind::InvalidLength, place));
     }
-    let long = u16::from_be_bytes([bytes[at], bytes[at + 1]]) as usize;
-    if long > limit {
-        return Err(fault(FaultKind::InvalidLength, at));
-    }
-    let start = at + 2;
-    if bytes.len() - start < long {
-        return Err(fault(FaultKind::EndOfBuffer, start));
-    }
-    Ok(Span {
-        start,
-        end: start + long,
-    })
+    Ok(number)
 }
 
-// An entry at a place: a message, then a certificate.
-fn entry(bytes: &[u8], at: usize) -> Result<Spans, BundleFault>
-    requires { at ≤ length bytes.now }
-    ensures { MatchResult result (λ s. (entry_of at (drop at bytes.now) ≡ Ok (raw bytes.now s)) × (s.certificate.end ≡ at + size (raw bytes.now s)) × Within (length bytes.now) s) (λ f. entry_of at (drop at bytes.now) ≡ Err f) }
+// A field: a length, at most a limit, and as many bytes.
+fn field<'a>(rest: &mut Rest<'a>, limit: usize) -> Result<&'a [u8], BundleFault>
+    ensures field { map_ok (λ m. m.now) result ≡ field_of limit rest.old.place rest.old.bytes.now }
+    ensures left { IfOk result (λ m. rest.old.bytes.now ≡ field_written m.now ++ rest.new.bytes.now) }
+    ensures place { IfOk result (λ m. rest.new.place ≡ rest.old.place + 2 + length m.now) }
+    ensures limited { IfOk result (λ m. (length m.now ≤ limit) × (length m.now ≤ max_prefix)) }
 {
-    let message = field(bytes, at, MAX_MESSAGE)?;
-    let certificate = field(bytes, message.end, MAX_PREFIX)?;
-    Ok(Spans {
+    let long = prefix(rest, limit)?;
+    let place = rest.place();
+    rest.take(long).ok_or(fault(FaultKind::EndOfBuffer, place))
+}
+
+// An entry: a message, then a certificate.
+fn entry<'a>(rest: &mut Rest<'a>) -> Result<RawEntry<'a>, BundleFault>
+    ensures entry { map_ok raw_of result ≡ entry_of rest.old.place rest.old.bytes.now }
+    ensures left { IfOk result (λ e. rest.old.bytes.now ≡ field_written e.message.now ++ (field_written e.certificate.now ++ rest.new.bytes.now)) }
+    ensures place { IfOk result (λ e. rest.new.place ≡ rest.old.place + size (raw_of e)) }
+    ensures short { IfOk result (λ e. Short (raw_of e)) }
+{
+    let message = field(rest, MAX_MESSAGE)?;
+    let certificate = field(rest, MAX_PREFIX)?;
+    Ok(RawEntry {
         message,
+        place: rest.place() - certificate.len(),
         certificate,
     })
 }
@@ -67,27 +77,19 @@ impl<'a> Bundle<'a> {
         ensures written { IfOk result (λ b. bytes.now ≡ bundle_written (held_by b)) }
         ensures reads_back { (rs : List Raw) → Limited rs → bytes.now ≡ bundle_written rs → map_ok pairs_of result ≡ Ok (map pair_of rs) }
     {
-        if bytes.len() < 2 {
-            return Err(fault(FaultKind::EndOfBuffer, 0));
+        let mut rest = Rest::new(bytes);
+        let count = prefix(&mut rest, MAX_CERTIFICATES)?;
+        let mut entries = Bounded::new(RawEntry {
+            message: &[],
+            place: 0,
+            certificate: &[],
+        });
+        for _ in 0..count {
+            entries.push(entry(&mut rest)?).unwrap();
         }
-        let count = u16::from_be_bytes([bytes[0], bytes[1]]) as usize;
-        if count > MAX_CERTIFICATES {
-            return Err(fault(FaultKind::InvalidLength, 0));
+        if !rest.bytes().is_empty() {
+            return Err(fault(FaultKind::ExtraData, rest.place()));
         }
-        let mut spans = [BLANK; MAX_CERTIFICATES];
-        let mut at = 2;
-        for i in 0..count {
-            let found = entry(bytes, at)?;
-            spans[i] = found;
-            at = found.certificate.end;
-        }
-        if at < bytes.len() {
-            return Err(fault(FaultKind::ExtraData, at));
-        }
-        Ok(Bundle {
-            bytes,
-            count,
-            spans,
-        })
+        Ok(Bundle { entries })
     }
 }

@@ -7,7 +7,7 @@ use refusals::Refusal;
 use std::fmt;
 
 /// The line of an entry.
-#[derive(Clone, Copy)]
+#[derive(Clone, Copy, PartialEq, Eq)]
 pub struct Line {
     pub number: usize,
     pub verdict: Verdict,
@@ -32,7 +32,7 @@ impl fmt::Display for Line {
 }
 
 /// The one line of a refused input.
-#[derive(Clone, Copy)]
+#[derive(Clone, Copy, PartialEq, Eq)]
 pub struct RefusedLine {
     pub refusal: Refusal,
 }

@@ -1,7 +1,8 @@
 // What is said of an entry.
 use refusals::BundleFault;
 
-#[derive(Clone, Copy)]
+// Not a `Result`: in a listing of verdicts an `Err` would read as a refused call.
+#[derive(Clone, Copy, PartialEq, Eq)]
 pub enum Verdict {
     Accepted,
     Rejected,

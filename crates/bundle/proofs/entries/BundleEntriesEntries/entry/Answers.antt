@@ -1,12 +1,12 @@
-use Rattle.std.proofs.Common.{sym}
-use Rattle.bundle.proofs.Looking.{seen_at, seen_past}
+use Rattle.std.proofs.Common.{arith, subst}
+use Rattle.std.proofs.lemmas.Grind.{common_steps}
+use Rattle.schemes.specs.Judging.{At}
+use Rattle.bundle.specs.Places.{held_by}
+use Rattle.bundle.proofs.Looking.{seen_at}
 use Rattle.bundle.proofs.entries.BundleEntriesEntries.entry.Goals as goal
 
-pub returns-in-Some : goal.returns-in-Some
-returns-in-Some g c =
-    let e = c.in-Some.ensures in
-    seen_at (g.V.Verifier.judging c.args.self.now.verifier.now) _ c.args.place _ _ e.0 e.1
-    (λ i. record { message = c.in-Some.raw.message.now; certificate = sym c.raise.ensures i })
-
-pub returns-in-None : goal.returns-in-None
-returns-in-None g c = seen_past (g.V.Verifier.judging c.args.self.now.verifier.now) _ _ c.in-None.ensures
+pub returns : goal.returns
+returns g c =
+    let j = g.V.Verifier.judging c.args.self.now.verifier.now in
+    let s = seen_at j (held_by c.args.self.now.bundle.now) c.args.place c.raw.result c.raw.ensures in
+    subst (At _ _) (grind (arith, common_steps)) s

@@ -1,6 +1,8 @@
-use Rattle.std.proofs.Common.{◌≡◌, ◌≤◌, length}
-use Rattle.bundle.proofs.Reading.{Ongoing}
+use Rattle.std.proofs.Common.{map}
+use Rattle.buffers.specs.Items.{items}
+use Rattle.bundle.specs.Raws.{raw_of}
+use Rattle.bundle.proofs.Reading.{Reading}
 use Rattle.bundle.proofs.layout.Bundle.read.Given as goal
 
-abbrev pub invariant-loop-i : goal.invariant-loop-i
-invariant-loop-i l = (l.at ≤ length l.bytes) × Ongoing l.bytes l.count l.i l.at l.spans × (length l.spans ≡ 256)
+abbrev pub invariant-loop : goal.invariant-loop
+invariant-loop l = Reading l.bytes l.count l.counter (map raw_of (items l.entries)) l.rest.place l.rest.bytes.now

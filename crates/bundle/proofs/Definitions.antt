@@ -1,22 +1,15 @@
--- What a bundle without faults is. Assumes nothing.
-use Rattle.std.proofs.Common.{◌≡◌, ℕ, zero, suc, ◌+◌, ◌*◌, ◌/◌, ◌%◌, ◌<◌, ◌≤◌, Bool, true, false, cond, eqb, ltb, List, [], ◌∷◌, ◌++◌, map, length, take, drop, is_ok, Ok, Err, Result, sym, refl, ap, ◌∙◌, zero-add, div-one, arith}
-use Rattle.std.proofs.lemmas.List.{drop-drop, length-drop, length-take-le, append_assoc, take-append-drop, get_or-drop, length-map}
-use Rattle.std.proofs.lemmas.Bool.{le-ltb, ltb-false, or_from, eqb-true}
-use Rattle.refusals.specs.Limits.{max_message, max_certificates, max_input}
+-- A bundle without faults is the writing of its entries, of the definitions alone. Assumes nothing.
+use Rattle.std.proofs.Common.{◌≡◌, ℕ, zero, suc, ◌+◌, ◌*◌, ◌/◌, ◌%◌, ◌<◌, ◌≤◌, Bool, true, false, cond, eqb, ltb, List, [], ◌∷◌, ◌++◌, length, take, drop, Ok, Err, Result, sym, refl, ap, ◌∙◌, zero-add, div-one, arith}
+use Rattle.std.proofs.lemmas.List.{drop-drop, length-drop, length-take-le, append_assoc, take-append-drop, get_or-drop}
+use Rattle.std.proofs.lemmas.Bool.{ltb-false, eqb-true}
+use Rattle.refusals.specs.Limits.{max_message, max_certificates}
 use Rattle.refusals.specs.declared.fault.BundleFault.{BundleFault}
-use Rattle.refusals.specs.declared.fault.FaultKind.TheVariants.{InvalidLength, ExtraData}
-use Rattle.schemes.specs.Judging.{Judging}
+use Rattle.refusals.specs.declared.fault.FaultKind.TheVariants.{ExtraData}
 use Rattle.refusals.specs.Results.{map_ok}
+use Rattle.refusals.proofs.Unrefused.{never}
 use Rattle.keys.specs.Bytes.{big_endian}
 use Rattle.keys.proofs.Octets.{Octets}
 use Rattle.bundle.specs.Layout.{bundle, field, fault, prefix, opening, closing, entry, entries, following, size, max_prefix, Raw, field_written, entries_written, bundle_written}
-use Rattle.refusals.specs.declared.refusal.Refusal.{Refusal}
-use Rattle.refusals.specs.declared.refusal.Refusal.TheVariants.{SmallBuffer}
-use Rattle.bundle.specs.declared.verdict.Verdict.{Verdict}
-use Rattle.bundle.specs.Verdicts.{seen, some_long, verdict, counted, Judged, answered, admitted, listed, Concluded}
-
-never : {A : Type 0} → ◌≡◌ {A = ℕ} 0 1 → A
-never z = absurd (omega arith)
 
 three : {X E : Type 0} (a b c : Bool) (e f g : E) (x y : X) → cond a (Err e) (cond b (Err f) (cond c (Err g) (Ok x))) ≡ Ok y → (a ≡ false) × (b ≡ false) × (c ≡ false) × (x ≡ y)
 three true b c e f g x y h = never (cc)
@@ -25,12 +18,12 @@ three false false true e f g x y h = never (cc)
 three false false false e f g x y h = (refl, refl, refl, cc)
 
 -- a field that was read
-pub record Found (limit : ℕ) (bs m : List ℕ) : Type 0 where
-  pub two : 2 ≤ length bs
-  pub small : length m ≤ limit
-  pub same : prefix bs ≡ length m
-  pub whole : 2 + length m ≤ length bs
-  pub is : m ≡ take (length m) (drop 2 bs)
+record Found (limit : ℕ) (bs m : List ℕ) : Type 0 where
+  two : 2 ≤ length bs
+  small : length m ≤ limit
+  same : prefix bs ≡ length m
+  whole : 2 + length m ≤ length bs
+  is : m ≡ take (length m) (drop 2 bs)
 
 found : (limit at : ℕ) (bs m : List ℕ) → field limit at bs ≡ Ok m → Found limit bs m
 unfolding field
@@ -44,9 +37,9 @@ found limit at bs m h =
     record { two = a; small = omega arith; same = s; whole = omega arith; is = sym t.3 ∙ ap (λ n. take n (drop 2 bs)) s }
 
 -- an entry that was read
-pub record Entered (at : ℕ) (bs : List ℕ) (r : Raw) : Type 0 where
-  pub message : Found max_message bs r.message
-  pub certificate : Found max_prefix (drop (2 + length r.message) bs) r.certificate
+record Entered (at : ℕ) (bs : List ℕ) (r : Raw) : Type 0 where
+  message : Found max_message bs r.message
+  certificate : Found max_prefix (drop (2 + length r.message) bs) r.certificate
 
 entered : (at : ℕ) (bs : List ℕ) (r : Raw) → entry at bs ≡ Ok r → Entered at bs r
 unfolding entry
@@ -69,12 +62,12 @@ entered at bs r h = first (field max_message at bs) refl h
     first (Ok m) p k = second m (field max_prefix (at + 2 + length m) (drop (2 + length m) bs)) p refl k
 
 -- the first of several entries, and the rest
-pub record Split (k at : ℕ) (bs : List ℕ) (rs : List Raw) : Type 0 where
-  pub head : Raw
-  pub tail : List Raw
-  pub first : Entered at bs head
-  pub rest : entries k (at + size head) (drop (size head) bs) ≡ Ok tail
-  pub joined : rs ≡ head ∷ tail
+record Split (k at : ℕ) (bs : List ℕ) (rs : List Raw) : Type 0 where
+  head : Raw
+  tail : List Raw
+  first : Entered at bs head
+  rest : entries k (at + size head) (drop (size head) bs) ≡ Ok tail
+  joined : rs ≡ head ∷ tail
 
 split : (k at : ℕ) (bs : List ℕ) (rs : List Raw) → entries (suc k) at bs ≡ Ok rs → Split k at bs rs
 split k at bs rs h = go (entry at bs) refl h
@@ -94,17 +87,6 @@ none_left at bs rs h = go (eqb (length bs) 0) refl h
     go true e k = (cc, eqb-true (length bs) 0 e)
     go false e k = never (cc)
 
-entries_long : (j : Judging) (k at : ℕ) (bs : List ℕ) (rs : List Raw) → entries k at bs ≡ Ok rs → (length rs ≡ k) × (some_long (map (seen j) rs) ≡ false)
-entries_long j zero at bs rs h = let n = none_left at bs rs h in (ap length n.0, ap (λ (z : List Raw). some_long (map (seen j) z)) n.0)
-entries_long j (suc k) at bs rs h =
-    let s = split k at bs rs h in
-    let t = entries_long j k (at + size s.head) (drop (size s.head) bs) s.tail s.rest in (
-      ap length s.joined ∙ ap suc t.0,
-      ap (λ (z : List Raw). some_long (map (seen j) z)) s.joined
-          ∙ or_from (ltb max_message (length s.head.message)) (some_long (map (seen j) s.tail)) (le-ltb max_message (length s.head.message) s.first.message.small) t.1,
-    )
-
--- a bundle without faults has at most 256 entries, and no long message
 two_tests : {X E : Type 0} (a b : Bool) (e f : E) (r : Result X E) (x : X) → cond a (Err e) (cond b (Err f) r) ≡ Ok x → (a ≡ false) × (b ≡ false) × (r ≡ Ok x)
 two_tests true b e f r x h = never (cc)
 two_tests false true e f r x h = never (cc)
@@ -115,13 +97,6 @@ unfolding bundle
 opened bs rs h =
     let t = two_tests (ltb (length bs) 2) (ltb max_certificates (prefix bs)) _ _ (entries (prefix bs) 2 (drop 2 bs)) rs h in
     (ltb-false (length bs) 2 t.0, ltb-false max_certificates (prefix bs) t.1, t.2)
-
-pub bundle_limits : (j : Judging) (bs : List ℕ) (rs : List Raw) → bundle bs ≡ Ok rs → (length rs ≤ max_certificates) × (some_long (map (seen j) rs) ≡ false)
-bundle_limits j bs rs h =
-    let o = opened bs rs h in
-    let e = entries_long j (prefix bs) 2 (drop 2 bs) rs o.2 in
-    let k = o.1 in let l = e.0 in
-    (omega arith, e.1)
 
 bytes_drop : (n : ℕ) (bs : List ℕ) → Octets bs → Octets (drop n bs)
 bytes_drop n bs h i = let e = get_or-drop n bs i 0 in let k = h (n + i) in omega arith
@@ -176,24 +151,3 @@ bundle_back bs rs h b =
     entries-count (suc k) at bs rs h =
         let s = split k at bs rs h in
         ap length s.joined ∙ ap suc (entries-count k (at + size s.head) (drop (size s.head) bs) s.tail s.rest)
-
--- judging the entries of a bundle that was read is judging the input
-pub concluded : (j : Judging) (input : List ℕ) (rs : List Raw) (before after : List Verdict) (r : Result ℕ Refusal)
-    → length input ≤ max_input → bundle input ≡ Ok rs → Judged j (map (seen j) rs) before after r → Concluded j input before after r
-concluded j input rs before after r h e d =
-    let es = map (seen j) rs in
-    let room = length before in
-    let b = bundle_limits j input rs e in
-    let l : length es ≡ length rs = length-map rs (seen j) in
-    let a : admitted input ≡ Ok rs = ap (λ t. cond t (Err (fault InvalidLength max_input)) (bundle input)) (le-ltb max_input (length input) h) ∙ e in
-    let m : ltb max_certificates (length es) ≡ false = le-ltb max_certificates (length es) (let k = b.0 in omega arith) in
-    let c : counted es room ≡ cond (ltb room (length es)) (Err (SmallBuffer (length es))) (Ok (length es)) = rw (b.1, m) refl in
-    record {
-      answer = d.answer ∙ c ∙ ap (λ n. cond (ltb room n) (Err (SmallBuffer n)) (Ok n)) l ∙ ap (λ z. answered z room) (sym a);
-      listing = d.listing ∙ ap (λ z. cond (is_ok r) z before)
-          ((λ i. map-map (verdict j) (seen j) rs i ++ drop (l i) before) ∙ ap (λ z. listed j z before) (sym a));
-    }
-  where
-    map-map : {A B C : Type 0} (f : B → C) (g : A → B) (xs : List A) → map f (map g xs) ≡ map (λ x. f (g x)) xs
-    map-map f g [] = refl
-    map-map f g (x ∷ xs) = ap (λ z. f (g x) ∷ z) (map-map f g xs)
