@@ -1,93 +1,58 @@
-use Rattle.std.proofs.Common.{◌≡◌, ℕ, ◌+◌, ◌<◌, ◌≤◌, min, cond, eqb, List, [], ◌∷◌, ◌++◌, length, take, drop, set, replicate, Some, None, Option, sym, refl, ap, ◌∙◌, ⊎_elim, append_assoc, arith, length-append}
-use lib.Utf8.{encode}
-use Rattle.std.proofs.lemmas.List.{take_at, drop_at, drop-drop, drop-set-lt, take_more_set, length-take-le, length-replicate}
-use Rattle.std.proofs.lemmas.Bool.{cases_Bool, eqb-true}
-use Rattle.std.specs.Str.Parse.{without_leading_plus}
+use Rattle.std.proofs.Common.{◌≡◌, ℕ, List, [], ◌∷◌, ◌++◌, length, Some, None, Option, sym, refl, ap, ◌∙◌, append_assoc, arith, length-append}
 use Rattle.table.specs.Hex.{hex_byte, hex_bytes, before}
-use Rattle.table.specs.Words.{beside, Unfit, Put}
-
--- text that does not begin with a plus sign is read as it is
-pub plain : (bs : List ℕ) → ((rest : List ℕ) → bs ≡ encode 43 ++ rest → ⊥) → without_leading_plus bs ≡ bs
-unfolding encode
-plain [] h = refl
-plain (b ∷ bs) h =
-    ⊎_elim (λ e. absurd (h bs (ap (λ x. x ∷ bs) (eqb-true b 43 e)))) (λ e. ap (λ t. drop (cond t 1 0) (b ∷ bs)) e) (cases_Bool (eqb b 43))
-
--- a part in front that was filled
-pub filled : (n b : ℕ) (part room : List ℕ) → n ≤ length room → part ≡ replicate (length (take n room)) b
-    → (n ≤ length (part ++ drop n room)) × (Some (replicate n b) ≡ Some (take n (part ++ drop n room))) × (drop n (part ++ drop n room) ≡ drop n room)
-filled n b part room h e =
-    let long : length (take n room) ≡ n = length-take-le n room h in
-    let all : part ≡ replicate n b = e ∙ ap (λ k. replicate k b) long in
-    let size : length part ≡ n = ap length all ∙ length-replicate n b in
-    let front = take_at part (drop n room) n size in
-    (simp length-append (omega arith), (cc), drop_at part (drop n room) n size)
+use Rattle.table.specs.Words.{max_bytes, word_bytes, beside, all_bytes, Unfit}
 
 -- no bytes in front of others
 pub beside_none : (o : Option (List ℕ)) → beside (Some []) o ≡ o
 beside_none None = refl
 beside_none (Some ys) = refl
 
-pub beside-beside : (xs ys : List ℕ) (o : Option (List ℕ)) → beside (Some xs) (beside (Some ys) o) ≡ beside (Some (xs ++ ys)) o
-beside-beside xs ys None = refl
-beside-beside xs ys (Some zs) = ap Some (sym (append_assoc xs ys zs))
+beside-beside : (a b o : Option (List ℕ)) → beside a (beside b o) ≡ beside (beside a b) o
+beside-beside None b o = refl
+beside-beside (Some xs) None o = refl
+beside-beside (Some xs) (Some ys) None = refl
+beside-beside (Some xs) (Some ys) (Some zs) = ap Some (sym (append_assoc xs ys zs))
+
+-- more bytes do not mend what is unfit
+unfit_beside : (a o : Option (List ℕ)) (n : ℕ) → Unfit a n → Unfit (beside a o) n
+unfit_beside None o n h = tt
+unfit_beside (Some xs) None n h = tt
+unfit_beside (Some xs) (Some ys) n h = simp length-append (omega arith)
 
 before-beside : (b : ℕ) (o : Option (List ℕ)) → before (Some b) o ≡ beside (Some (b ∷ [])) o
 before-beside b None = refl
 before-beside b (Some ys) = refl
 
 -- a chunk that is a byte is the first byte
-first_byte : (chunk rest : List ℕ) (b : ℕ) → hex_byte chunk ≡ Some b → hex_bytes (chunk ++ rest) ≡ before (Some b) (hex_bytes rest)
+first_byte : (chunk rest : List ℕ) (b : ℕ) → hex_byte chunk ≡ Some b → hex_bytes (chunk ++ rest) ≡ beside (Some (b ∷ [])) (hex_bytes rest)
 first_byte [] rest b e = cc
 first_byte (high ∷ []) rest b e = cc
-first_byte (high ∷ low ∷ []) rest b e = ap (λ o. before o (hex_bytes rest)) e
+first_byte (high ∷ low ∷ []) rest b e = ap (λ o. before o (hex_bytes rest)) e ∙ before-beside b (hex_bytes rest)
 first_byte (high ∷ low ∷ more ∷ others) rest b e = cc
 
--- what lies behind one more place
-pub behind_one : (old room : List ℕ) (len b : ℕ) → drop len room ≡ drop len old → drop (len + 1) (set room len b) ≡ drop (len + 1) old
-behind_one old room len b same =
-    drop-set-lt (len + 1) room len b (omega arith) ∙ sym (drop-drop 1 len room) ∙ ap (drop 1) same ∙ drop-drop 1 len old
-
 -- one more byte
-pub put_more : (digits left chunk rest room : List ℕ) (len b : ℕ) → left ≡ chunk ++ rest → hex_byte chunk ≡ Some b
-    → len < length room → beside (Some (take len room)) (hex_bytes left) ≡ hex_bytes digits
-    → beside (Some (take (len + 1) (set room len b))) (hex_bytes rest) ≡ hex_bytes digits
-put_more digits left chunk rest room len b cut e h inv =
-    let first = first_byte chunk rest b e in
-    let one = before-beside b (hex_bytes rest) in
-    let moved = beside-beside (take len room) (b ∷ []) (hex_bytes rest) in
-    let more = take_more_set room len b h in
-    cc
+pub one_more : (left chunk rest bytes more : List ℕ) (b : ℕ) (all : Option (List ℕ)) → left ≡ chunk ++ rest → Some b ≡ hex_byte chunk
+    → more ≡ bytes ++ b ∷ [] → beside (Some bytes) (hex_bytes left) ≡ all → beside (Some more) (hex_bytes rest) ≡ all
+one_more left chunk rest bytes more b all cut e put h =
+    ap (λ xs. beside (Some xs) (hex_bytes rest)) put ∙ sym (beside-beside (Some bytes) (Some (b ∷ [])) (hex_bytes rest))
+    ∙ ap (beside (Some bytes)) (sym (first_byte chunk rest b (sym e)) ∙ ap hex_bytes (sym cut)) ∙ h
 
-long : (n : ℕ) (xs : List ℕ) (o : Option ℕ) (p : Option (List ℕ)) → length xs ≡ n → Unfit (beside (Some xs) (before o p)) n
-long n xs None p e = tt
-long n xs (Some b) None e = tt
-long n xs (Some b) (Some ys) e = simp length-append (omega arith)
+-- a byte that finds no room
+pub no_room : (left chunk rest bytes : List ℕ) (b : ℕ) (all : Option (List ℕ)) → left ≡ chunk ++ rest → Some b ≡ hex_byte chunk
+    → length bytes ≡ max_bytes → beside (Some bytes) (hex_bytes left) ≡ all → Unfit all max_bytes
+no_room left chunk rest bytes b all cut e full h =
+    let more = one_more left chunk rest bytes (bytes ++ b ∷ []) b all cut e refl h in
+    rw (← more) (unfit_beside (Some (bytes ++ b ∷ [])) (hex_bytes rest) max_bytes (simp length-append (omega arith)))
 
--- digits are left, and the room is full
-pub full : (digits left room : List ℕ) (len : ℕ) → 0 < length left → len ≡ length room
-    → beside (Some (take len room)) (hex_bytes left) ≡ hex_bytes digits → Unfit (hex_bytes digits) (length room)
-full digits [] room len some all inv = absurd (omega arith)
-full digits (high ∷ []) room len some all inv = rw (← inv) tt
-full digits (high ∷ low ∷ rest) room len some all inv =
-    let whole : length (take len room) ≡ length room = length-take-le len room (omega arith) ∙ all in
-    rw (← inv) (long (length room) (take len room) (hex_byte (high ∷ low ∷ [])) (hex_bytes rest) whole)
+-- one more word
+pub more_bytes : (left words : List (List ℕ)) (word bytes more : List ℕ) (all : Option (List ℕ)) → left ≡ word ∷ words
+    → beside (Some bytes) (word_bytes word) ≡ Some more → beside (Some bytes) (all_bytes left) ≡ all → beside (Some more) (all_bytes words) ≡ all
+more_bytes left words word bytes more all next put h =
+    ap (λ o. beside o (all_bytes words)) (sym put) ∙ sym (beside-beside (Some bytes) (word_bytes word) (all_bytes words))
+    ∙ ap (λ ws. beside (Some bytes) (all_bytes ws)) (sym next) ∙ h
 
--- a chunk that is no byte
-bad_byte : (chunk rest : List ℕ) → length chunk ≡ min 2 (length (chunk ++ rest)) → 0 < length (chunk ++ rest)
-    → hex_byte chunk ≡ None → hex_bytes (chunk ++ rest) ≡ None
-bad_byte [] [] size some e = absurd (omega arith)
-bad_byte [] (x ∷ xs) size some e = absurd (omega arith)
-bad_byte (high ∷ []) [] size some e = refl
-bad_byte (high ∷ []) (x ∷ xs) size some e = absurd (omega arith)
-bad_byte (high ∷ low ∷ []) rest size some e = ap (λ o. before o (hex_bytes rest)) e
-bad_byte (high ∷ low ∷ more ∷ others) rest size some e = absurd (omega arith)
-
-pub put_none : (digits left chunk rest room xs : List ℕ) (r : Option ℕ) → r ≡ None → left ≡ chunk ++ rest
-    → length chunk ≡ min 2 (length left) → 0 < length left → hex_byte chunk ≡ None
-    → beside (Some xs) (hex_bytes left) ≡ hex_bytes digits → Put (hex_bytes digits) room r
-put_none digits left chunk rest room xs r refused cut size some e inv =
-    let joined = ap length cut in
-    let bad = bad_byte chunk rest (cc) (omega arith) e in
-    let none : hex_bytes digits ≡ None = sym inv ∙ ap (beside (Some xs)) (ap hex_bytes cut ∙ bad) in
-    rw (refused, none) tt
+-- a word that does not fit
+pub too_many : (left words : List (List ℕ)) (word bytes : List ℕ) (all : Option (List ℕ)) → left ≡ word ∷ words
+    → Unfit (beside (Some bytes) (word_bytes word)) max_bytes → beside (Some bytes) (all_bytes left) ≡ all → Unfit all max_bytes
+too_many left words word bytes all next unfit h =
+    rw (← h, next, beside-beside (Some bytes) (word_bytes word) (all_bytes words)) (unfit_beside (beside (Some bytes) (word_bytes word)) (all_bytes words) max_bytes unfit)

@@ -1,4 +1,3 @@
 pub mod Counts
 pub mod Laws
-pub mod TextParts
-pub mod WordLaws
+pub mod Parts

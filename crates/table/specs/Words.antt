@@ -1,24 +1,16 @@
--- What words write, and what becomes of the room for it. Assumes nothing.
-use Rattle.std.specs.Prelude.{◌≡◌, ℕ, ◌<◌, ◌≤◌, min, Bool, true, cond, ◌&&◌, List, [], ◌∷◌, ◌++◌, length, take, drop, replicate, Some, None, Option, ◌==◌, nat_le, nat_lt}
+-- What words write. Assumes nothing.
+use Rattle.std.specs.Prelude.{◌≡◌, ℕ, ◌<◌, ◌≤◌, cond, ◌&&◌, List, [], ◌∷◌, ◌++◌, length, replicate, Some, None, Option, MatchOption, ◌==◌, nat_le}
+use Rattle.std.specs.List.{slice_split}
+use Rattle.std.specs.Str.{all_ascii_digits}
 use Rattle.std.specs.Str.Parse.{IsNumeral, digits_value}
-use Rattle.std.specs.Char.{digit_value}
 use Rattle.table.specs.Hex.{hex_byte, hex_bytes}
 
 abbrev pub max_bytes : ℕ
 max_bytes = 70000
 
-abbrev pub onto : ℕ → List (List ℕ) → List (List ℕ)
-onto c [] = (c ∷ []) ∷ []
-onto c (part ∷ parts) = (c ∷ part) ∷ parts
-
 -- the parts of a text between the bytes that equal `mark`
 abbrev pub split_at : ℕ → List ℕ → List (List ℕ)
-split_at mark [] = [] ∷ []
-split_at mark (c ∷ cs) = cond (c == mark) ([] ∷ split_at mark cs) (onto c (split_at mark cs))
-
-abbrev pub all_decimal : List ℕ → Bool
-all_decimal [] = true
-all_decimal (c ∷ cs) = nat_lt (digit_value c) 10 && all_decimal cs
+split_at mark text = slice_split (λ c. c == mark) text
 
 -- a decimal number up to the limit
 abbrev pub Counted : List ℕ → Option ℕ → Type 0
@@ -28,7 +20,7 @@ Counted text (Some n) = IsNumeral 10 text × (n ≡ digits_value 10 text) × (n 
 -- the same as one value
 abbrev pub count_of : List ℕ → Option ℕ
 count_of [] = None
-count_of (c ∷ cs) = cond (all_decimal (c ∷ cs) && nat_le (digits_value 10 (c ∷ cs)) max_bytes) (Some (digits_value 10 (c ∷ cs))) None
+count_of (c ∷ cs) = cond (all_ascii_digits (c ∷ cs) && nat_le (digits_value 10 (c ∷ cs)) max_bytes) (Some (digits_value 10 (c ∷ cs))) None
 
 abbrev pub repeated : Option ℕ → Option ℕ → Option (List ℕ)
 repeated None count = None
@@ -63,21 +55,11 @@ all_bytes (word ∷ words) = beside (word_bytes word) (all_bytes words)
 abbrev pub text_bytes : List ℕ → Option (List ℕ)
 text_bytes text = all_bytes (split_at 32 text)
 
--- the first so many of a room for a line
-abbrev pub front : ℕ → List ℕ → List ℕ
-front n room = take (min n max_bytes) room
-
--- there are no bytes, or more than the room holds
+-- there are no bytes, or more than there is room for
 abbrev pub Unfit : Option (List ℕ) → ℕ → Type 0
 Unfit None room = Unit {0}
 Unfit (Some bytes) room = room < length bytes
 
--- the bytes stand in front of the room, and their number is answered
-abbrev pub Put : Option (List ℕ) → List ℕ → Option ℕ → Type 0
-Put bytes room None = Unfit bytes (length room)
-Put bytes room (Some n) = (n ≤ length room) × (bytes ≡ Some (take n room))
-
--- a room before and after: what lies behind the bytes is as it was
-abbrev pub Kept : List ℕ → List ℕ → Option ℕ → Type 0
-Kept before after None = Unit {0}
-Kept before after (Some n) = drop n after ≡ drop n before
+-- the bytes stand behind those that stood before, or together they are unfit
+abbrev pub Put : Option (List ℕ) → List ℕ → List ℕ → Option (Unit {0}) → Type 0
+Put bytes before after result = MatchOption result (Unfit (beside (Some before) bytes) max_bytes) (λ _. beside (Some before) bytes ≡ Some after)

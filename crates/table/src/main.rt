@@ -4,17 +4,11 @@
 mod words;
 
 use crate::words::LineBytes;
-use bundle::{Answer, RefusedLine, Verdict};
-use refusals::MAX_CERTIFICATES;
+use bundle::{Judgement, RefusedLine};
 use roll_w::roll_of_w;
 use schemes::Verifier;
 use std::io;
 use std::io::{BufRead, BufReader};
-
-fn print_answer<V: Verifier>(rt: &impl Print, verifier: &V, input: &[u8]) -> io::Result<()> {
-    let mut verdicts = [Verdict::Rejected; MAX_CERTIFICATES];
-    rt.print(Answer::of(verifier, input, &mut verdicts))
-}
 
 // A line is a name, and the words of a bundle's bytes behind it.
 fn answer_line<V: Verifier>(rt: &impl Print, verifier: &V, line: &str) -> io::Result<()> {
@@ -23,11 +17,11 @@ fn answer_line<V: Verifier>(rt: &impl Print, verifier: &V, line: &str) -> io::Re
     }
     let Some((name, words)) = line.split_once(' ') else {
         rt.println(line)?;
-        return print_answer(rt, verifier, &[]);
+        return rt.print(Judgement::of(verifier, &[]));
     };
     rt.println(name)?;
     match LineBytes::read(words) {
-        Some(line) => print_answer(rt, verifier, line.as_slice()),
+        Some(line) => rt.print(Judgement::of(verifier, line.as_slice())),
         None => rt.println("bad line"),
     }
 }

@@ -1,11 +1,15 @@
 // Bytes written as words: hex, or a byte and how often it stands.
-ghost use Rattle.std.specs.Prelude.{◌≡◌, ◌≤◌, length, replicate, IfSome, Some, MatchOption};
+ghost use Rattle.std.specs.Prelude.{◌≡◌, replicate, Some, MatchOption};
+ghost use Rattle.buffers.specs.Items.{items};
 ghost use Rattle.table.specs.Hex.{hex_digit, hex_byte, hex_bytes};
-ghost use Rattle.table.specs.Words.{max_bytes, Counted, count_of, word_bytes, text_bytes, front, Unfit, Put, Kept};
+ghost use Rattle.table.specs.Words.{max_bytes, Counted, count_of, word_bytes, text_bytes, Unfit, Put};
+
+use buffers::Bounded;
 
 /// The most bytes of a line, and the most that a byte is repeated.
 pub const MAX_BYTES: usize = 70_000;
 
+// Not `to_digit`, which takes capital letters too.
 fn digit(symbol: u8) -> Option<u8>
     ensures { result ≡ hex_digit symbol }
 {
@@ -29,89 +33,69 @@ fn repeat_count(text: &str) -> Option<usize>
     ensures counted { Counted text.now result }
     ensures value { result ≡ count_of text.now }
 {
+    // `parse` takes a plus sign in front.
     if text.starts_with('+') {
         return None;
     }
-    match text.parse::<usize>() {
-        Ok(count) if count <= MAX_BYTES => Some(count),
-        _ => None,
-    }
-}
-
-// The calls named put write bytes into the front of the room, and answer how many.
-fn put_hex(digits: &[u8], room: &mut [u8]) -> Option<usize>
-    ensures put { Put (hex_bytes digits.now) room.new result }
-    ensures kept { Kept room.old room.new result }
-{
-    let mut len = 0;
-    for pair in digits.chunks(2) {
-        if len == room.len() {
-            return None;
-        }
-        room[len] = byte(pair)?;
-        len += 1;
-    }
-    Some(len)
-}
-
-fn put_repeated(byte: u8, count: usize, room: &mut [u8]) -> Option<usize>
-    ensures put { Put (Some (replicate count byte)) room.new result }
-    ensures kept { Kept room.old room.new result }
-{
-    if count > room.len() {
-        return None;
-    }
-    room[..count].fill(byte);
-    Some(count)
-}
-
-fn put_word(word: &str, room: &mut [u8]) -> Option<usize>
-    ensures within { IfSome result (λ n. n ≤ length room.new) }
-    ensures put { Put (word_bytes word.now) room.new result }
-    ensures kept { Kept room.old room.new result }
-{
-    if word.is_empty() {
-        return None;
-    }
-    match word.split_once('*') {
-        Some((digits, count)) => put_repeated(byte(digits.as_bytes())?, repeat_count(count)?, room),
-        None => put_hex(word.as_bytes(), room),
-    }
-}
-
-/// Puts the bytes of words that single spaces separate; none if a word is bad or the room too short.
-pub fn put_words(text: &str, room: &mut [u8]) -> Option<usize>
-    ensures within { IfSome result (λ n. n ≤ length room.new) }
-    ensures put { Put (text_bytes text.now) room.new result }
-    ensures kept { Kept room.old room.new result }
-{
-    let mut len = 0;
-    for word in text.split(' ') {
-        len += put_word(word, &mut room[len..])?;
-    }
-    Some(len)
+    text.parse().ok().filter(|count| *count <= MAX_BYTES)
 }
 
 /// The bytes that a line's words write.
 #[derive(Drop)]
 pub struct LineBytes {
-    room: [u8; MAX_BYTES],
-    len: usize,
+    bytes: Bounded<u8, MAX_BYTES>,
 }
 
 impl LineBytes {
+    // The calls named put write bytes behind the others; none if a word is bad, or the bytes are too many.
+    fn put_hex(&mut self, digits: &[u8]) -> Option<()>
+        ensures { Put (hex_bytes digits.now) (items self.old.bytes) (items self.new.bytes) result }
+    {
+        for pair in digits.chunks(2) {
+            self.bytes.push(byte(pair)?)?;
+        }
+        Some(())
+    }
+
+    fn put_repeated(&mut self, byte: u8, count: usize) -> Option<()>
+        ensures { Put (Some (replicate count byte)) (items self.old.bytes) (items self.new.bytes) result }
+    {
+        for _ in 0..count {
+            self.bytes.push(byte)?;
+        }
+        Some(())
+    }
+
+    fn put_word(&mut self, word: &str) -> Option<()>
+        ensures { Put (word_bytes word.now) (items self.old.bytes) (items self.new.bytes) result }
+    {
+        if word.is_empty() {
+            return None;
+        }
+        match word.split_once('*') {
+            Some((digits, count)) => {
+                self.put_repeated(byte(digits.as_bytes())?, repeat_count(count)?)
+            }
+            None => self.put_hex(word.as_bytes()),
+        }
+    }
+
     /// Reads words that single spaces separate; none if a word is bad, or if the bytes are too many.
     pub fn read(text: &str) -> Option<LineBytes>
-        ensures { MatchOption result (Unfit (text_bytes text.now) max_bytes) (λ b. text_bytes text.now ≡ Some (front b.len b.room)) }
+        ensures { MatchOption result (Unfit (text_bytes text.now) max_bytes) (λ line. text_bytes text.now ≡ Some (items line.bytes)) }
     {
-        let mut room = [0u8; MAX_BYTES];
-        let len = put_words(text, &mut room)?;
-        Some(LineBytes { room, len })
+        let mut line = LineBytes {
+            bytes: Bounded::new(0),
+        };
+        for word in text.split(' ') {
+            line.put_word(word)?;
+        }
+        Some(line)
     }
 
     pub fn as_slice(&self) -> &[u8]
-        ensures { result.now ≡ front self.now.len self.now.room }
+        ensures { result.now ≡ items self.now.bytes }
     {
-        &self.room[0..self.len.min(MAX_BYTES)]
+        self.bytes.as_slice()
     }
 }

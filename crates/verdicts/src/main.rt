@@ -1,43 +1,34 @@
 // Judges the bundle of standard input with roll W's list scheme, and prints the verdicts.
 #![tactic(auto)]
 
-ghost use Rattle.std.specs.Prelude.{◌≤◌, length, IfOk};
+ghost use Rattle.std.specs.Prelude.{◌≡◌, ◌≤◌, length, take, IfOk, IfSome};
 
-use bundle::{Answer, RefusedLine, Verdict};
-use refusals::{MAX_CERTIFICATES, MAX_INPUT};
+use bundle::{Judgement, RefusedLine};
+use refusals::MAX_INPUT;
 use roll_w::roll_of_w;
-use schemes::Verifier;
+use std::alloc::Global;
 use std::io;
 use std::io::Read;
 
 /// A byte more than the limit, so that a longer input is refused.
 const ROOM: usize = MAX_INPUT + 1;
 
-// Reads until the buffer is full or the input ends, and answers how much was read.
-fn fill<R: Read>(reader: &mut R, buffer: &mut [u8]) -> io::Result<usize>
-    ensures { IfOk result (λ n. n ≤ length buffer.new) }
+// Reads to the end, and no more than there is room for.
+fn read_input<R: Read + Drop>(alloc: Global, reader: R) -> io::Result<Vec<u8>>
+    ensures few { IfOk result (λ input. length input.items ≤ ROOM) }
+    ensures bytes { IfOk result (λ input. IfSome (R.remaining reader) (λ bytes. input.items ≡ take ROOM bytes)) }
 {
-    let mut len = 0;
-    for _ in 0..buffer.len() {
-        let more = reader.read(&mut buffer[len..])?;
-        if more == 0 {
-            break;
-        }
-        len += more;
-    }
-    Ok(len)
-}
-
-fn print_answer<V: Verifier>(rt: &impl Print, verifier: &V, input: &[u8]) -> io::Result<()> {
-    let mut verdicts = [Verdict::Rejected; MAX_CERTIFICATES];
-    rt.print(Answer::of(verifier, input, &mut verdicts))
+    let mut input = Vec::new(alloc);
+    reader.take(ROOM as u64).read_to_end(&mut input)?;
+    // Of a reader whose bytes are not known, `read_to_end` promises no length.
+    input.truncate(ROOM);
+    Ok(input)
 }
 
 fn main(rt: HostRuntime) -> io::Result<()> {
-    let mut buffer = [0u8; ROOM];
-    let len = fill(&mut rt.stdin(), &mut buffer)?;
+    let input = read_input(rt.alloc(), rt.stdin())?;
     match roll_of_w() {
-        Ok(scheme) => print_answer(&rt, &scheme, &buffer[..len]),
+        Ok(scheme) => rt.print(Judgement::of(&scheme, &input)),
         Err(refusal) => rt.println(RefusedLine { refusal }),
     }
 }
@@ -45,7 +36,7 @@ fn main(rt: HostRuntime) -> io::Result<()> {
 #[cfg(test)]
 mod tests {
     use super::*;
-    use bundle::Line;
+    use bundle::{Line, Verdict};
     use refusals::{BundleFault, FaultKind, Layer, Refusal};
     use std::fmt;
     use std::process::Abort;
