@@ -1,11 +1,11 @@
 // The items of a bounded list.
-ghost use Rattle.std.specs.Prelude.{◌≡◌, ◌+◌, ◌<◌, ◌≤◌, [], ◌∷◌, ◌++◌, List, length, take, IsSome, MatchOption};
+ghost use Rattle.std.specs.Prelude.{◌≡◌, ◌+◌, ◌<◌, ◌≤◌, [], ◌∷◌, ◌++◌, length, MatchOption};
 ghost use Rattle.buffers.specs.Items.{items};
 
 use crate::table::Bounded;
 
 impl<T: Copy, const N: usize> Bounded<T, N> {
-    /// No items yet; a blank lies in each place that is free.
+    /// An empty list; a blank lies in each free place.
     pub fn new(blank: T) -> Bounded<T, N>
         ensures { items result ≡ [] }
     {
@@ -15,7 +15,7 @@ impl<T: Copy, const N: usize> Bounded<T, N> {
         }
     }
 
-    /// Puts an item behind the others; none, and nothing is put, without room.
+    /// Puts an item behind the others; `None`, and nothing changes, without room.
     pub fn push(&mut self, item: T) -> Option<()>
         ensures { MatchOption result ((length (items self.old) ≡ N) × (self.new ≡ self.old)) (λ _. items self.new ≡ items self.old ++ item ∷ []) }
     {
@@ -27,7 +27,7 @@ impl<T: Copy, const N: usize> Bounded<T, N> {
         Some(())
     }
 
-    /// Puts items behind the others; none, and nothing is put, without room for all.
+    /// Puts items behind the others; `None`, and nothing changes, without room for all.
     pub fn extend_from_slice(&mut self, more: &[T]) -> Option<()>
         ensures { MatchOption result ((N < length (items self.old) + length more.now) × (self.new ≡ self.old)) (λ _. items self.new ≡ items self.old ++ more.now) }
     {
@@ -35,6 +35,7 @@ impl<T: Copy, const N: usize> Bounded<T, N> {
             return None;
         }
         let end = self.len + more.len();
+        // In two steps: no part of an array of a length `N` can be lent, and a part of its slice can.
         let room = &mut self.table[..];
         room[self.len..end].copy_from_slice(more);
         self.len = end;
@@ -46,7 +47,6 @@ impl<T: Copy, const N: usize> Bounded<T, N> {
         ensures items { result.now ≡ items self.now }
         ensures few { length result.now ≤ N }
     {
-        let table = &self.table[..];
-        &table[..self.len]
+        &self.table[..self.len]
     }
 }

@@ -32,7 +32,7 @@ impl<'a> Rest<'a> {
         self.place
     }
 
-    /// Takes so many bytes; none, and nothing is taken, where fewer are left.
+    /// Takes so many bytes; `None`, and nothing changes, where fewer are left.
     pub fn take(&mut self, count: usize) -> Option<&'a [u8]>
         ensures { MatchOption result ((length self.old.bytes.now < count) × (self.new ≡ self.old)) (λ b. (b.now ≡ take count self.old.bytes.now) × (count ≤ length self.old.bytes.now) × (self.new.bytes.now ≡ drop count self.old.bytes.now) × (self.new.place ≡ self.old.place + count)) }
     {

@@ -4,6 +4,7 @@ ghost use Rattle.std.specs.Prelude.{◌≡◌, ◌≤◌, length};
 use std::alloc::AllocError;
 
 /// A list of at most `N` items, which lie in the value itself.
+// Not the kit's `ArrayVec`, which is not `Copy` and needs a default item: a rule of the project is that its values are copied.
 #[derive(Copy)]
 pub struct Bounded<T, const N: usize> {
     pub(crate) table: [T; N],
@@ -12,6 +13,7 @@ pub struct Bounded<T, const N: usize> {
     ghost within: { len ≤ N },
 }
 
+// By hand: no derive makes `Clone` for a generic struct with a ghost field.
 impl<T: Copy, const N: usize> Clone for Bounded<T, N> {
     ghost is_clone = { λ a b. b ≡ a };
 

@@ -1,8 +1,8 @@
 -- Reading signatures one by one. Assumes nothing.
-use Rattle.std.proofs.Common.{◌≡◌, ℕ, suc, ◌+◌, ◌-◌, ◌*◌, ◌<◌, ◌≤◌, List, [], ◌∷◌, ◌++◌, length, take, drop, Ok, Err, sym, refl, ap, ◌∙◌, add-mul, one-mul, zero-mul, arith}
+use Rattle.std.proofs.Common.{◌≡◌, ℕ, suc, ◌+◌, ◌-◌, ◌*◌, ◌<◌, ◌≤◌, List, [], ◌∷◌, ◌++◌, length, take, drop, Ok, Err, sym, refl, ap, ◌∙◌, add-mul, one-mul, arith}
 use Rattle.std.proofs.lemmas.List.{drop-drop, length-append, append-nil}
 use Rattle.std.proofs.lemmas.Bool.{lt-ltb, le-ltb}
-use Rattle.refusals.proofs.Prepending.{all_ok, more_ok}
+use Rattle.refusals.proofs.Prepending.{more_ok}
 use Rattle.refusals.specs.Results.{map_ok}
 use Rattle.refusals.specs.declared.fault.FaultKind.TheVariants.{EndOfBuffer}
 use Rattle.refusals.specs.declared.fault.Layer.TheVariants.{Signatures}
@@ -19,9 +19,6 @@ one_more : (i width : ℕ) → (i + 1) * width ≡ i * width + width
 one_more i width = add-mul i 1 width ∙ ap (λ n. i * width + n) (one-mul width)
 
 module _ (width count start : ℕ) (bs : List ℕ) where
-  pub ongoing_none : Ongoing width count start bs 0 start bs []
-  ongoing_none = record { taken = refl; left = ap (λ n. drop n bs) (sym (zero-mul width)); place = omega arith; whole = ap (λ n. map_ok (λ rs. [] ++ rs) (signatures width n start bs)) (omega arith) ∙ all_ok (signatures width count start bs) }
-
   module _ (i at : ℕ) (rest : List ℕ) (ss : List (List ℕ)) (o : Ongoing width count start bs i at rest ss) where
     pub ongoing_more : (at' : ℕ) (rest' : List ℕ) (ss' : List (List ℕ)) → i < count → width ≤ length rest → at' ≡ at + width → rest' ≡ drop width rest → ss' ≡ ss ++ take width rest ∷ []
         → Ongoing width count start bs (i + 1) at' rest' ss'

@@ -1,5 +1,5 @@
 // Reading a list certificate, field by field.
-ghost use Rattle.std.specs.Prelude.{◌≡◌, ℕ, ◌+◌, ◌*◌, ◌≤◌, List, min, map, length, drop, OnOk, Ok, Err, MatchResult};
+ghost use Rattle.std.specs.Prelude.{◌≡◌, ℕ, ◌+◌, ◌*◌, ◌≤◌, List, min, map, drop, OnOk, Ok, Err, MatchResult};
 ghost use Rattle.buffers.specs.Items.{items};
 ghost use Rattle.keys.specs.Signed.{signed};
 ghost use Rattle.keys.specs.Varint.{read_varint};
@@ -21,7 +21,7 @@ fn fault(kind: FaultKind, layer: Layer, place: usize) -> CertificateFault
     CertificateFault { kind, layer, place }
 }
 
-// So many signatures of a width.
+// Reads `count` signatures of `width` bytes.
 fn signatures(
     rest: &mut Rest<'_>,
     count: usize,
@@ -43,7 +43,7 @@ fn signatures(
     Ok(list)
 }
 
-// How many signatures follow.
+// Reads how many signatures follow, at most a bound.
 fn count(rest: &mut Rest<'_>, bound: usize) -> Result<usize, CertificateFault>
     ensures { MatchResult result (λ n. (n ≤ min bound max_members) × ((size : ℕ) × (read_varint rest.old.bytes.now ≡ Ok (record { value = n; size = size })) × (rest.new.bytes.now ≡ drop size rest.old.bytes.now) × (rest.new.place ≡ rest.old.place + size))) (λ f. (width : ℕ) (b : Bitmap) (bs : List ℕ) → listed width bound b rest.old.place bs (read_varint rest.old.bytes.now) ≡ Err f) }
 {

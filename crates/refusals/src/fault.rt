@@ -1,5 +1,5 @@
 // Faults of bytes: of a bitmap, of a certificate, of a bundle. Each is carried into the next by `From`.
-ghost use Rattle.std.specs.Prelude.{◌≡◌, ◌-◌, ◌<◌};
+ghost use Rattle.std.specs.Prelude.{◌≡◌};
 ghost use Rattle.refusals.specs.Faults.{layered, raised};
 
 #[derive(Clone, Copy, PartialEq, Eq)]
@@ -38,8 +38,8 @@ pub struct CertificateFault {
 }
 
 /// The place is counted from the bundle's first byte.
-// Alike in form to a certificate's fault, and a type of its own, so that a place that was not raised does not fit. One type with a
-// marker for what the place is counted from would put a marker or a constructor in the place of each literal.
+// Alike in form to a certificate's fault, and a type of its own by a rule of the project, so that a place that was not raised does not fit.
+// One type with a marker, or inside two newtypes, would put a constructor in each literal and a `.0` at each use.
 #[derive(Clone, Copy, PartialEq, Eq)]
 pub struct BundleFault {
     pub kind: FaultKind,

@@ -4,6 +4,7 @@ ghost use Rattle.refusals.specs.Numbers.{number as number_of, values as values_o
 
 use crate::fault::{BundleFault, CertificateFault, FaultKind, Layer};
 
+// Each refusal is a variant with its number, by a rule of the project; so the four faults of bytes are not one variant with a kind.
 #[derive(Clone, Copy, PartialEq, Eq)]
 pub enum Refusal {
     /// A member index not below the number of members.
@@ -62,7 +63,7 @@ impl FaultKind {
 }
 
 impl Refusal {
-    // `as` gives no number where variants have fields.
+    // No plainer: `as` gives no number where variants have fields.
     pub fn number(self) -> u8
         ensures { result ≡ number_of self }
     {
@@ -121,7 +122,7 @@ fn two(first: usize, second: usize) -> Values
     }
 }
 
-// Each type of fault has its own `From`; what both do is `refusal`.
+// One `From` for each type of fault; no macro of the repository may write them, and what both do is `refusal`.
 impl From<CertificateFault> for Refusal {
     ghost from_gives = { λ f r. r ≡ refused f.kind f.layer f.place };
 
