@@ -3,6 +3,7 @@ ghost use Rattle.std.specs.Prelude.{◌≡◌, ℕ, ◌+◌, ◌%◌, ◌^◌};
 ghost use Rattle.groups.specs.declared.weights.Weight.{Weight};
 
 /// A number of 128 bits, in two halves.
+// Two halves and no `u128`: contracts and cases name each of them by itself.
 #[derive(Clone, Copy, PartialEq, Eq)]
 pub struct Weight {
     pub high: u64,

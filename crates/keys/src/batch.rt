@@ -13,7 +13,7 @@ pub struct BatchEntry<'a, K> {
 }
 
 /// A batch that is read entry by entry.
-// No bound on an iterator: what its items are would be a `requires`, and no public function has one.
+// A batch need not lie in a list; over an iterator's bound a public function would need a `requires`.
 pub trait BatchReader<K: KeyCheck> {
     ghost entries: { Self → List Entry };
 

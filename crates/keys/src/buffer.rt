@@ -2,7 +2,7 @@
 ghost use Rattle.std.specs.Prelude.{◌≡◌, ◌+◌, ◌<◌, ◌≤◌, length, MatchOption};
 ghost use Rattle.keys.specs.Bytes.{overlaid};
 
-/// Writes bytes at a place of a buffer, and gives the place behind them; none, and nothing is written, without room.
+/// Writes bytes at a place of a buffer, and gives the place behind them. `None`, and nothing is written, without room.
 pub fn put(out: &mut [u8], at: usize, bytes: &[u8]) -> Option<usize>
     ensures { MatchOption result ((length out.old < at + length bytes.now) × (out.new ≡ out.old)) (λ end. (end ≡ at + length bytes.now) × (end ≤ length out.old) × (out.new ≡ overlaid out.old at bytes.now)) }
 {

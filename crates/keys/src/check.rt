@@ -16,7 +16,7 @@ pub trait KeyCheck: Copy {
     // Bytes that are no key make no key value.
     ghost keyed: { (k : Self) → meaning.is_key (key k) ≡ true };
 
-    // No supertrait `TryFrom<&[u8]>`: its bound binds a lifetime, and the check cannot state that.
+    // No supertrait `TryFrom`: it would be `for<'a> TryFrom<&'a [u8]>`, which the check does not cover.
     fn from_bytes(bytes: &[u8]) -> Option<Self>
         ensures { MatchOption result (meaning.is_key bytes.now ≡ false) (λ k. key k ≡ bytes.now) };
 

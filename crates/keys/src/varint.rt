@@ -62,8 +62,8 @@ pub fn write_varint(value: u32, out: &mut [u8]) -> Result<usize, Refusal>
     Ok(needed)
 }
 
-// The shortest form ends in 0 only where it is one byte.
-fn judged(value: u64, size: usize, last: u8) -> Result<Varint, VarintFault>
+// The number, where its form is the shortest: that ends in 0 only where it is one byte.
+fn shortest(value: u64, size: usize, last: u8) -> Result<Varint, VarintFault>
     ensures { MatchResult result (λ v. (v ≡ record { value = value; size = size }) × (value < 2 ^ 32) × (1 < size → 1 ≤ last)) (λ e. (e ≡ Invalid) × ((2 ^ 32 ≤ value) ⊎ ((1 < size) × (last ≡ 0)))) }
 {
     let value = u32::try_from(value).map_err(|_| VarintFault::Invalid)?;
@@ -85,7 +85,7 @@ pub fn read_varint(bytes: &[u8]) -> Result<Varint, VarintFault>
     for (place, byte) in bytes.iter().enumerate() {
         value += (*byte % 128) as u64 * weight;
         if *byte < 128 {
-            return judged(value, place + 1, *byte);
+            return shortest(value, place + 1, *byte);
         }
         if place + 1 == MAX_GROUPS {
             return Err(VarintFault::Invalid);

@@ -1,12 +1,12 @@
 -- The order of keys, and a roll filled member by member. Assumes nothing.
-use Rattle.std.proofs.Common.{◌≡◌, ℕ, ◌+◌, ◌-◌, ◌<◌, ◌≤◌, Bool, true, false, ◌&&◌, ◌||◌, eqb, List, [], ◌∷◌, ◌++◌, map, length, get_or, take, Some, None, Option, sym, refl, ap, ◌∙◌, arith, below_more, MatchOption}
+use Rattle.std.proofs.Common.{◌≡◌, ℕ, ◌+◌, ◌-◌, ◌<◌, Bool, true, false, ◌&&◌, ◌||◌, eqb, List, [], ◌∷◌, ◌++◌, map, length, get_or, take, Some, None, Option, sym, refl, ap, ◌∙◌, arith, below_more, MatchOption}
 use Rattle.std.specs.Borrow.{Bor}
 use Rattle.std.specs.Cmp.Lexicographic.{slice_partial_cmp}
 use Rattle.std.specs.Ordering.{nat_cmp, is_lt, is_some_and}
 use Rattle.std.proofs.lemmas.Bool.Decides.{nat_tests}
 use Rattle.std.proofs.lemmas.Bool.{eq-eqb, ne_eqb, and_from, and_right}
 use Rattle.std.proofs.lemmas.Cmp.{same_from_slice_cmp_tested}
-use Rattle.std.proofs.lemmas.List.{get_or-map, length-map, length-take-le, map_push, take_more}
+use Rattle.std.proofs.lemmas.List.{get_or-map, length-map, map_push, take_more}
 use Rattle.rolls.specs.Enrolled.{before, fine}
 use Rattle.rolls.specs.Roll.{raw_keys}
 use Rattle.rolls.specs.declared.roll.Member.{Member}
@@ -35,12 +35,6 @@ above : (raws : List (List ℕ)) (i : ℕ) (below : Option (Bor (List ℕ))) (b 
 above raws i None b l s = rw (eq-eqb i 0 l) (sym s)
 above raws i (Some x) b l s = let q : eqb i 0 ≡ false = ne_eqb i 0 (λ e. omega arith) in rw q (ap (λ z. before z (get_or raws i [])) (sym l.1) ∙ sym s)
 
--- a key more, where there is room
-pushed : {K : Type 0} (o : Option (Unit {0})) (ks after : List K) (k : K) (n : ℕ) (same : Type 0) → length ks < n
-    → MatchOption o ((length ks ≡ n) × same) (λ _. after ≡ ks ++ k ∷ []) → after ≡ ks ++ k ∷ []
-pushed None ks after k n same l h = absurd (omega (arith, h.0))
-pushed (Some u) ks after k n same l h = h
-
 module _ {K : Type 0} (is_key : List ℕ → Bool) (key : K → List ℕ) (ms : List Member) (i : ℕ) (ks : List K) (below : Option (Bor (List ℕ))) (d : Member) (b : Bool) where
   raw_at : i < length ms → get_or (raw_keys ms) i [] ≡ (get_or ms i d).key.now
   raw_at l = get_or-map (λ m. m.key.now) ms i d [] l
@@ -53,16 +47,15 @@ module _ {K : Type 0} (is_key : List ℕ → Bool) (key : K → List ℕ) (ms : 
       → fine is_key (raw_keys ms) i ≡ false
   not_above l f s e = fine_is l f s ∙ and_right (is_key (get_or (raw_keys ms) i [])) b e
 
-  pub filled_more : (k : K) (after : List K) (o : Option (Unit {0})) (same : Type 0) → i < length ms → length ms ≤ 64 → Filled is_key key (raw_keys ms) i ks below → Stands below (get_or ms i d).key.now b → b ≡ true
-      → is_key (key k) ≡ true → key k ≡ (get_or ms i d).key.now → MatchOption o ((length ks ≡ 64) × same) (λ _. after ≡ ks ++ k ∷ [])
+  pub filled_more : (k : K) (after : List K) → i < length ms → Filled is_key key (raw_keys ms) i ks below → Stands below (get_or ms i d).key.now b → b ≡ true
+      → is_key (key k) ≡ true → key k ≡ (get_or ms i d).key.now → after ≡ ks ++ k ∷ []
       → Filled is_key key (raw_keys ms) (i + 1) after (Some (get_or ms i d).key)
-  filled_more k after o same l few f s t y e p =
+  filled_more k after l f s t y e p =
       let n : i < length (raw_keys ms) = omega (arith, length-map ms (λ m. m.key.now)) in
-      let a = pushed o ks after k 64 same (omega (arith, length-map ks key, ap length f.same, length-take-le i (raw_keys ms) (omega arith))) p in
       let h : key k ≡ get_or (raw_keys ms) i [] = e ∙ sym (raw_at l) in
       let z : i + 1 - 1 ≡ i = omega arith in
       record {
-        same = ap (map key) a ∙ map_push key ks k ∙ rw (f.same, h) (sym (take_more (raw_keys ms) i [] n));
+        same = ap (map key) p ∙ map_push key ks k ∙ rw (f.same, h) (sym (take_more (raw_keys ms) i [] n));
         each = below_more _ i f.each (fine_is l f s ∙ and_from (is_key (get_or (raw_keys ms) i [])) b (ap is_key (sym h) ∙ y) t);
         last = (omega arith, rw z (sym (raw_at l)));
       }

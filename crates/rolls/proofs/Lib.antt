@@ -1,5 +1,6 @@
 pub mod BitLaws
 pub mod MemberLaws
+pub mod Members
 pub mod Gathering
 pub mod Writings
 pub mod Readings

@@ -1,33 +1,21 @@
--- The members of a bitmap, ascending, and how many they are. Assumes nothing.
-use Rattle.std.proofs.Common.{◌≡◌, ℕ, zero, suc, ◌+◌, ◌*◌, ◌/◌, ◌%◌, ◌^◌, ◌<◌, ◌≤◌, Bool, true, false, cond, ◌||◌, eqb, List, [], ◌∷◌, ◌++◌, length, get_or, sym, refl, ap, ◌∙◌, subst, ⊎_elim, add-one, arith}
+-- How many members a bitmap has. Assumes nothing.
+use Rattle.std.proofs.Common.{◌≡◌, ℕ, zero, suc, ◌+◌, ◌*◌, ◌/◌, ◌%◌, ◌^◌, ◌<◌, ◌≤◌, Bool, true, false, cond, ◌||◌, eqb, [], length, sym, refl, ap, ◌∙◌, subst, ⊎_elim, arith}
 use native.Mathlib.Nat.{mod-eq_of_lt}
 use lib.Count.{ones, ones_cat}
 use Rattle.std.proofs.Math.Bool.{or-false}
 use Rattle.std.proofs.lemmas.Nat.{pow_pos, mod-pow-add, mod_below}
-use Rattle.std.proofs.lemmas.List.{append-nil, append_assoc, length-append, length_push, get_or_at}
+use Rattle.std.proofs.lemmas.List.{append-nil, length_push}
 use Rattle.std.proofs.lemmas.Bool.{cases_lt, cases_eq, cases_Bool, eq-eqb, ne_eqb, or_right}
 use Rattle.rolls.specs.Bitmap.{has, members_below}
 
 -- one index more: a member, or not
-members_in : (n bits : ℕ) → has bits n ≡ true → members_below (n + 1) bits ≡ members_below n bits ++ n ∷ []
-members_in n bits h = rw (add-one n, h) refl
-
-members_out : (n bits : ℕ) → has bits n ≡ false → members_below (n + 1) bits ≡ members_below n bits
-members_out n bits h = rw (add-one n, h) (append-nil (members_below n bits))
-
-pub count_in : (n bits : ℕ) → has bits n ≡ true → length (members_below (n + 1) bits) ≡ length (members_below n bits) + 1
-count_in n bits h = rw (members_in n bits h) (length_push (members_below n bits) n)
-
-pub count_out : (n bits : ℕ) → has bits n ≡ false → length (members_below (n + 1) bits) ≡ length (members_below n bits)
-count_out n bits h = ap length (members_out n bits h)
-
-count_suc : (n bits : ℕ) → length (members_below (suc n) bits) ≡ length (members_below n bits) + cond (has bits n) 1 0
+pub count_suc : (n bits : ℕ) → length (members_below (suc n) bits) ≡ length (members_below n bits) + cond (has bits n) 1 0
 count_suc n bits =
     ⊎_elim (λ e. rw e (length_push (members_below n bits) n))
     (λ e. rw e (ap length (append-nil (members_below n bits)) ∙ omega arith))
     (cases_Bool (has bits n))
 
-cond_le : (b : Bool) → cond b 1 0 ≤ 1
+pub cond_le : (b : Bool) → cond b 1 0 ≤ 1
 cond_le true = omega arith
 cond_le false = omega arith
 
@@ -51,36 +39,18 @@ pub count_le : (n bits : ℕ) → length (members_below n bits) ≤ n
 count_le zero bits = omega arith
 count_le (suc n) bits = omega (arith, count_le n bits, count_suc n bits, cond_le (has bits n))
 
-pub members-none : (n bits : ℕ) → ((k : ℕ) → k < n → has bits k ≡ false) → members_below n bits ≡ []
-members-none zero bits h = refl
-members-none (suc n) bits h = rw (h n (omega arith), members-none n bits (λ k l. h k (omega arith))) refl
-
--- the members below m are the front of those below n
-members_split : (m n bits : ℕ) → m ≤ n → (rest : List ℕ) × (members_below n bits ≡ members_below m bits ++ rest)
-members_split m zero bits l = let e : zero ≡ m = omega arith in ([], ap (λ k. members_below k bits) e ∙ sym (append-nil (members_below m bits)))
-members_split m (suc n) bits l =
+-- no member from m up to n
+pub members_skip : (m n bits : ℕ) → m ≤ n → ((k : ℕ) → m ≤ k → k < n → has bits k ≡ false) → members_below n bits ≡ members_below m bits
+members_skip m zero bits l h = let e : zero ≡ m = omega arith in ap (λ k. members_below k bits) e
+members_skip m (suc n) bits l h =
     ⊎_elim
-    (λ p. let s = members_split m n bits (omega arith) in
-    (s.0 ++ cond (has bits n) (n ∷ []) [], ap (λ z. z ++ cond (has bits n) (n ∷ []) []) s.1 ∙ append_assoc (members_below m bits) s.0 (cond (has bits n) (n ∷ []) [])))
-    (λ p. let e : suc n ≡ m = omega arith in ([], ap (λ k. members_below k bits) e ∙ sym (append-nil (members_below m bits))))
+    (λ p. let q : has bits n ≡ false = h n (omega arith) (omega arith) in
+    rw q (append-nil (members_below n bits) ∙ members_skip m n bits (omega arith) (λ k a b. h k a (omega arith))))
+    (λ p. let e : suc n ≡ m = omega arith in ap (λ k. members_below k bits) e)
     (cases_lt m (suc n))
 
--- a member stands behind those below it
-members_around : (i n bits : ℕ) → i < n → has bits i ≡ true → (rest : List ℕ) × (members_below n bits ≡ members_below i bits ++ i ∷ rest)
-members_around i n bits l h =
-    let s = members_split (i + 1) n bits (omega arith) in
-    (s.0, s.1 ∙ ap (λ z. z ++ s.0) (members_in i bits h) ∙ append_assoc (members_below i bits) (i ∷ []) s.0)
-
-pub members_at : (i n bits : ℕ) → i < n → has bits i ≡ true → get_or (members_below n bits) (length (members_below i bits)) 0 ≡ i
-members_at i n bits l h =
-    let s = members_around i n bits l h in
-    rw s.1 (get_or_at (members_below i bits) i s.0 0 (length (members_below i bits)) refl)
-
-pub count_lt : (i n bits : ℕ) → i < n → has bits i ≡ true → length (members_below i bits) < length (members_below n bits)
-count_lt i n bits l h =
-    let s = members_around i n bits l h in
-    let e : length (members_below n bits) ≡ length (members_below i bits) + length (i ∷ s.0) = ap length s.1 ∙ length-append (members_below i bits) (i ∷ s.0) in
-    omega arith
+pub members-none : (n bits : ℕ) → ((k : ℕ) → k < n → has bits k ≡ false) → members_below n bits ≡ []
+members-none n bits h = members_skip 0 n bits (omega arith) (λ k a b. h k b)
 
 -- one bit more is one member more
 module _ (bits more x : ℕ) (clear : has bits x ≡ false) (set : (i : ℕ) → has more i ≡ (has bits i || eqb x i)) where

@@ -105,11 +105,11 @@ unfolding read_bits
 bits-fine n bs x h e l = rw (le-ltb (length bs) (bitmap_size n) h, sym e, lt-ltb x (2 ^ n) l) refl
 
 -- a set that is made of the bits, or none
-pub bits-made : (n : ℕ) (bs : List ℕ) (x : ℕ) (o : Option Signers) (r : Result Signers BitmapFault) → n ≤ 64 → bitmap_size n ≤ length bs
-    → x ≡ little_number (take (bitmap_size n) bs) → MatchOption o (n ≤ 64 → 2 ^ n ≤ x) (λ s. bitmap s ≡ record { len = n; bits = x })
+pub bits-made : (n : ℕ) (bs : List ℕ) (x : ℕ) (o : Option Signers) (r : Result Signers BitmapFault) → bitmap_size n ≤ length bs
+    → x ≡ little_number (take (bitmap_size n) bs) → MatchOption o (2 ^ n ≤ x) (λ s. bitmap s ≡ record { len = n; bits = x })
     → r ≡ ok_or o (record { kind = Invalid; place = 8 }) → map_ok bitmap r ≡ read_bits n bs
-bits-made n bs x None r few h e m q = ap (map_ok bitmap) q ∙ bits_over n bs x h e (m few)
-bits-made n bs x (Some s) r few h e m q =
+bits-made n bs x None r h e m q = ap (map_ok bitmap) q ∙ bits_over n bs x h e m
+bits-made n bs x (Some s) r h e m q =
     let l : x < 2 ^ n = subst (λ b. b.bits < 2 ^ b.len) m s.fits in
     ap (map_ok bitmap) q ∙ ap Ok m ∙ bits-fine n bs x h e l
 

@@ -2,7 +2,7 @@
 ghost use Rattle.std.specs.Prelude.{◌≡◌};
 ghost use Rattle.rolls.specs.Quorum.{quorum as quorum_of};
 
-/// Faults under which a quorum holds: fewer than a third of the members, or fewer than a fifth, by its number.
+/// Fewer than a third (`N3f1`) or a fifth (`N5f1`) of the members may be faulty; the number is the divisor.
 #[derive(Clone, Copy, PartialEq, Eq)]
 pub enum Faults {
     N3f1 = 3,

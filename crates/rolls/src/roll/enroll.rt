@@ -1,5 +1,5 @@
 // A roll from raw members.
-ghost use Rattle.std.specs.Prelude.{◌≡◌, ℕ, ◌<◌, ◌≤◌, true, false, [], map, length, MatchOption, MatchResult, slice_index_or};
+ghost use Rattle.std.specs.Prelude.{◌≡◌, ℕ, ◌<◌, ◌≤◌, true, [], map, length, MatchOption, MatchResult, slice_index_or};
 ghost use Rattle.refusals.specs.declared.refusal.Refusal.TheVariants.{BadRoll};
 ghost use Rattle.rolls.specs.Enrolled.{before, Enrolled, Refused};
 ghost use Rattle.rolls.specs.Roll.{raw_keys, keys_of};
@@ -9,7 +9,7 @@ use buffers::Bounded;
 use keys::KeyCheck;
 use refusals::{MAX_MEMBERS, Refusal};
 
-// Whether a key stands above the one before it, if there is one: by their bytes, a key above its front.
+// Whether a key stands above the one before it, if there is one: by their bytes, and a key is above its own prefixes.
 fn stands_above(below: Option<&[u8]>, key: &[u8]) -> bool
     ensures { MatchOption below.entry (result ≡ true) (λ b. result ≡ before b.now key.now) }
 {
@@ -24,19 +24,18 @@ impl<K: KeyCheck> Roll<K> {
         if members.len() > MAX_MEMBERS {
             return Err(Refusal::BadRoll { index: MAX_MEMBERS });
         }
-        let Some(first) = members.first().and_then(|first| K::from_bytes(first.key)) else {
-            return Err(Refusal::BadRoll { index: 0 });
-        };
+        let first = members
+            .first()
+            .and_then(|first| K::from_bytes(first.key))
+            .ok_or(Refusal::BadRoll { index: 0 })?;
         let mut keys = Bounded::new(first);
         let mut below: Option<&[u8]> = None;
         for (index, member) in members.iter().enumerate() {
             if !stands_above(below, member.key) {
                 return Err(Refusal::BadRoll { index });
             }
-            let Some(key) = K::from_bytes(member.key) else {
-                return Err(Refusal::BadRoll { index });
-            };
-            let _ = keys.push(key);
+            let key = K::from_bytes(member.key).ok_or(Refusal::BadRoll { index })?;
+            keys.push(key).unwrap();
             below = Some(member.key);
         }
         Ok(Roll { keys })

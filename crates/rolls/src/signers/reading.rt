@@ -28,10 +28,11 @@ fn little(bytes: &[u8]) -> u64
 
 impl Signers {
     // The set of some bits, below a length of at most 64; none where a bit stands at or above the length.
-    fn of(len: usize, bits: u64) -> Option<Signers>
-        ensures { MatchOption result (len ≤ max_members → 2 ^ len ≤ bits) (λ s. bitmap s ≡ record { len = len; bits = bits }) }
+    fn from_bits(len: usize, bits: u64) -> Option<Signers>
+        requires { len ≤ max_members }
+        ensures { MatchOption result (2 ^ len ≤ bits) (λ s. bitmap s ≡ record { len = len; bits = bits }) }
     {
-        if len > MAX_MEMBERS || bits.checked_shr(len as u32).is_some_and(|above| above > 0) {
+        if bits.checked_shr(len as u32).is_some_and(|above| above > 0) {
             return None;
         }
         Some(Signers { len, bits })
@@ -55,10 +56,11 @@ impl Signers {
         let bits = rest
             .get(..len.div_ceil(8))
             .ok_or(fault(FaultKind::EndOfBuffer, 8))?;
-        Signers::of(len, little(bits)).ok_or(fault(FaultKind::Invalid, 8))
+        Signers::from_bits(len, little(bits)).ok_or(fault(FaultKind::Invalid, 8))
     }
 
     /// The set that all of the bytes are, of at most so many members.
+    #[tactic(auto, using(crate::proofs::Readings::decode_broken, crate::proofs::Readings::ok_decodes))]
     pub fn decode(bytes: &[u8], limit: usize) -> Result<Signers, CertificateFault>
         ensures read { map_ok bitmap result ≡ decode_bitmap limit bytes.now }
         ensures written { IfOk result (λ s. bytes.now ≡ bitmap_written (bitmap s)) }

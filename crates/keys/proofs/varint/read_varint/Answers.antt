@@ -11,8 +11,8 @@ loop-place-preserved c =
 
 pub returns-then-byte-lt128 : goal.returns-then-byte-lt128
 returns-then-byte-lt128 c =
-    let e : c.judged.result ≡ read_varint c.args.bytes.now =
-    reading_closes c.args.bytes.now c.loop-place.place _ c.loop-place.value c.loop-place.weight _ (omega arith) refl (omega arith) c.loop-place.invariant c.judged.ensures in
+    let e : c.shortest.result ≡ read_varint c.args.bytes.now =
+    reading_closes c.args.bytes.now c.loop-place.place _ c.loop-place.value c.loop-place.weight _ (omega arith) refl (omega arith) c.loop-place.invariant c.shortest.ensures in
     record { value = e; reads_back = back_from_value _ _ e; shortest = shortest_from_value _ _ e }
 
 pub returns-then-place-eq-MAX_GROUPS : goal.returns-then-place-eq-MAX_GROUPS

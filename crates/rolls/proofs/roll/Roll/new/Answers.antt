@@ -1,5 +1,6 @@
 use Rattle.std.proofs.Common.{refl, arith}
 use Rattle.std.proofs.lemmas.List.{length-map}
+use Rattle.std.proofs.lemmas.Option.{MatchOption-at_some}
 use Rattle.rolls.specs.Enrolled.{first_bad}
 use Rattle.rolls.proofs.Enrolling.{not_above, filled_more}
 use Rattle.rolls.proofs.roll.Roll.new.Goals as goal
@@ -18,5 +19,5 @@ returns-then-not-stands_above g c =
 pub loop-index-preserved : goal.loop-index-preserved
 loop-index-preserved g c =
     filled_more g.K.KeyCheck.meaning.is_key g.K.KeyCheck.key c.args.members.now c.loop-index.index _ c.loop-index.below _ _
-    c.in-Some-from_bytes.key _ c.push.result _ c.loop-index-test.true c.if-members-gt-MAX_MEMBERS.false c.loop-index.invariant c.if-not-stands_above.ensures refl
-    (g.K.KeyCheck.keyed c.in-Some-from_bytes.key) c.in-Some-from_bytes.ensures c.push.ensures
+    c.in_ok-key.key _ c.loop-index-test.true c.loop-index.invariant c.if-not-stands_above.ensures refl
+    (g.K.KeyCheck.keyed c.in_ok-key.key) (MatchOption-at_some _ _ _ c.in_ok-key.ensures.ok_part c.from_bytes.ensures) (MatchOption-at_some _ _ _ c.unwrap.ensures c.push.ensures)

@@ -46,8 +46,8 @@ returns-clause-read c =
     let k : c.div_ceil.result ≡ bitmap_size c.from_be_bytes-len.result = omega (arith, c.div_ceil.ensures) in
     let b : c.in_ok-bits.bits.now ≡ take (bitmap_size c.from_be_bytes-len.result) c.in_ok-len.rest.now =
     g.2 ∙ between_from_start c.in_ok-len.rest.now c.div_ceil.result ∙ ap (λ m. take m c.in_ok-len.rest.now) k in
-    bits-made c.from_be_bytes-len.result c.in_ok-len.rest.now c.little.result c.of.result c.ok_or-3.result (omega arith) (omega (arith, g.1))
-    (c.little.ensures ∙ ap little_number b) c.of.ensures (c.ok_or-3.ensures.value ∙ ap (ok_or c.of.result) c.fault-3.ensures)
+    bits-made c.from_be_bytes-len.result c.in_ok-len.rest.now c.little.result c.from_bits.result c.ok_or-3.result (omega (arith, g.1))
+    (c.little.ensures ∙ ap little_number b) c.from_bits.ensures (c.ok_or-3.ensures.value ∙ ap (ok_or c.from_bits.result) c.fault-3.ensures)
     ∙ read_behind c.args.limit c.args.bytes.now c.in_ok-len.rest.now c.from_be_bytes-len.result s few
 
 pub returns-clause-written : goal.returns-clause-written
