@@ -3,6 +3,7 @@ use Rattle.std.proofs.Common.{◌≡◌, ℕ, ◌≤◌, false, cond, ltb, List,
 use Rattle.std.specs.List.{AllByRecursion}
 use Rattle.std.proofs.lemmas.List.{length-map}
 use Rattle.std.proofs.lemmas.Bool.{le-ltb, or_from}
+use Rattle.std.proofs.lemmas.Simd.{map-map}
 use Rattle.refusals.specs.Limits.{max_message, max_certificates, max_input}
 use Rattle.refusals.specs.declared.fault.FaultKind.TheVariants.{InvalidLength}
 use Rattle.refusals.specs.declared.refusal.Refusal.{Refusal}
@@ -15,10 +16,6 @@ use Rattle.bundle.specs.Verdicts.{seen, some_long, verdict, counted, Judged, ans
 short_seen : (j : Judging) (rs : List Raw) → AllByRecursion Short rs → some_long (map (seen j) rs) ≡ false
 short_seen j [] h = refl
 short_seen j (r ∷ rs) h = or_from (ltb max_message (length r.message)) (some_long (map (seen j) rs)) (le-ltb max_message (length r.message) h.0.0) (short_seen j rs h.1)
-
-map-map : {A B C : Type 0} (f : B → C) (g : A → B) (xs : List A) → map f (map g xs) ≡ map (λ x. f (g x)) xs
-map-map f g [] = refl
-map-map f g (x ∷ xs) = ap (λ z. f (g x) ∷ z) (map-map f g xs)
 
 pub concluded : (j : Judging) (input : List ℕ) (rs : List Raw) (before after : List Verdict) (r : Result ℕ Refusal)
     → length input ≤ max_input → bundle input ≡ Ok rs → Limited rs → Judged j (map (seen j) rs) before after r → Concluded j input before after r

@@ -1,7 +1,7 @@
 -- A bundle without faults is the writing of its entries, of the definitions alone. Assumes nothing.
-use Rattle.std.proofs.Common.{◌≡◌, ℕ, zero, suc, ◌+◌, ◌*◌, ◌/◌, ◌%◌, ◌<◌, ◌≤◌, Bool, true, false, cond, eqb, ltb, List, [], ◌∷◌, ◌++◌, length, take, drop, Ok, Err, Result, sym, refl, ap, ◌∙◌, zero-add, div-one, arith}
-use Rattle.std.proofs.lemmas.List.{drop-drop, length-drop, length-take-le, append_assoc, take-append-drop, get_or-drop}
-use Rattle.std.proofs.lemmas.Bool.{ltb-false, eqb-true}
+use Rattle.std.proofs.Common.{◌≡◌, ℕ, zero, suc, ◌+◌, ◌*◌, ◌/◌, ◌%◌, ◌<◌, ◌≤◌, Bool, true, false, cond, eqb, ltb, List, [], ◌∷◌, ◌++◌, map, length, take, drop, Ok, Err, Result, sym, refl, ap, ◌∙◌, zero-add, div-one, arith}
+use Rattle.std.proofs.lemmas.List.{drop-drop, length-drop, length-take-le, append_assoc, take-append-drop, get_or-drop, nil_from_length}
+use Rattle.std.proofs.lemmas.Bool.{le-ltb, ltb-false, or_from, eqb-true}
 use Rattle.refusals.specs.Limits.{max_message, max_certificates}
 use Rattle.refusals.specs.declared.fault.BundleFault.{BundleFault}
 use Rattle.refusals.specs.declared.fault.FaultKind.TheVariants.{ExtraData}
@@ -9,6 +9,8 @@ use Rattle.refusals.specs.Results.{map_ok}
 use Rattle.refusals.proofs.Unrefused.{never}
 use Rattle.keys.specs.Bytes.{big_endian}
 use Rattle.keys.proofs.Octets.{Octets}
+use Rattle.schemes.specs.Judging.{Judging}
+use Rattle.bundle.specs.Verdicts.{seen, some_long}
 use Rattle.bundle.specs.Layout.{bundle, field, fault, prefix, opening, closing, entry, entries, following, size, max_prefix, Raw, field_written, entries_written, bundle_written}
 
 three : {X E : Type 0} (a b c : Bool) (e f g : E) (x y : X) → cond a (Err e) (cond b (Err f) (cond c (Err g) (Ok x))) ≡ Ok y → (a ≡ false) × (b ≡ false) × (c ≡ false) × (x ≡ y)
@@ -87,6 +89,16 @@ none_left at bs rs h = go (eqb (length bs) 0) refl h
     go true e k = (cc, eqb-true (length bs) 0 e)
     go false e k = never (cc)
 
+pub entries_long : (j : Judging) (k at : ℕ) (bs : List ℕ) (rs : List Raw) → entries k at bs ≡ Ok rs → (length rs ≡ k) × (some_long (map (seen j) rs) ≡ false)
+entries_long j zero at bs rs h = let n = none_left at bs rs h in (ap length n.0, ap (λ (z : List Raw). some_long (map (seen j) z)) n.0)
+entries_long j (suc k) at bs rs h =
+    let s = split k at bs rs h in
+    let t = entries_long j k (at + size s.head) (drop (size s.head) bs) s.tail s.rest in (
+      ap length s.joined ∙ ap suc t.0,
+      ap (λ (z : List Raw). some_long (map (seen j) z)) s.joined
+          ∙ or_from (ltb max_message (length s.head.message)) (some_long (map (seen j) s.tail)) (le-ltb max_message (length s.head.message) s.first.message.small) t.1,
+    )
+
 two_tests : {X E : Type 0} (a b : Bool) (e f : E) (r : Result X E) (x : X) → cond a (Err e) (cond b (Err f) r) ≡ Ok x → (a ≡ false) × (b ≡ false) × (r ≡ Ok x)
 two_tests true b e f r x h = never (cc)
 two_tests false true e f r x h = never (cc)
@@ -97,6 +109,14 @@ unfolding bundle
 opened bs rs h =
     let t = two_tests (ltb (length bs) 2) (ltb max_certificates (prefix bs)) _ _ (entries (prefix bs) 2 (drop 2 bs)) rs h in
     (ltb-false (length bs) 2 t.0, ltb-false max_certificates (prefix bs) t.1, t.2)
+
+-- a bundle without faults has at most 256 entries, and no long message
+pub bundle_limits : (j : Judging) (bs : List ℕ) (rs : List Raw) → bundle bs ≡ Ok rs → (length rs ≤ max_certificates) × (some_long (map (seen j) rs) ≡ false)
+bundle_limits j bs rs h =
+    let o = opened bs rs h in
+    let e = entries_long j (prefix bs) 2 (drop 2 bs) rs o.2 in
+    let k = o.1 in let l = e.0 in
+    (omega arith, e.1)
 
 bytes_drop : (n : ℕ) (bs : List ℕ) → Octets bs → Octets (drop n bs)
 bytes_drop n bs h i = let e = get_or-drop n bs i 0 in let k = h (n + i) in omega arith
@@ -121,12 +141,8 @@ found_written limit bs m f b =
     ∙ ap (λ z. big_endian 2 (length m) ++ z) (sym (take-append-drop (length m) (drop 2 bs)) ∙ (λ i. sym f.is i ++ drop-drop (length m) 2 bs i))
     ∙ sym (append_assoc (big_endian 2 (length m)) m (drop (2 + length m) bs))
 
-empty : (bs : List ℕ) → length bs ≡ 0 → bs ≡ []
-empty [] h = refl
-empty (b ∷ bs) h = absurd (omega arith)
-
 entries_back : (k at : ℕ) (bs : List ℕ) (rs : List Raw) → entries k at bs ≡ Ok rs → Octets bs → bs ≡ entries_written rs
-entries_back zero at bs rs h b = let n = none_left at bs rs h in empty bs n.1 ∙ ap entries_written (sym n.0)
+entries_back zero at bs rs h b = let n = none_left at bs rs h in nil_from_length bs n.1 ∙ ap entries_written (sym n.0)
 entries_back (suc k) at bs rs h b =
     let s = split k at bs rs h in
     let m = s.head.message in

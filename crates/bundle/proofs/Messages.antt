@@ -2,7 +2,7 @@
 use Rattle.std.proofs.Common.{◌≡◌, ℕ, zero, suc, ◌<◌, ◌≤◌, Bool, true, false, not, ◌||◌, ltb, Err, List, [], ◌∷◌, length, get_or, MatchBool, sym, refl, ap, subst, ◌∙◌, zero-add, arith}
 use Rattle.std.specs.List.{AllWithin, HoldsAt, range_with_len}
 use Rattle.std.proofs.lemmas.List.FromFn.{length-range_with_len, get_or-range_with_len}
-use Rattle.std.proofs.lemmas.Bool.{lt-ltb, le-ltb, ltb-false, or_parts, or_from}
+use Rattle.std.proofs.lemmas.Bool.{lt-ltb, le-ltb, ltb-false, or_parts, or_from, or_right}
 use Rattle.refusals.specs.Limits.{max_message}
 use Rattle.schemes.specs.Judging.{Seen}
 use Rattle.refusals.specs.declared.fault.FaultKind.TheVariants.{EndOfBuffer}
@@ -19,10 +19,6 @@ long_found : (es : List Seen) (i : ℕ) (d : Seen) → i < length es → max_mes
 long_found [] i d h k = absurd (omega arith)
 long_found (e ∷ es) zero d h k = ap (λ b. b || some_long es) (lt-ltb max_message (length e.message) k)
 long_found (e ∷ es) (suc i) d h k = or_right (ltb max_message (length e.message)) (some_long es) (long_found es i d (omega arith) k)
-  where
-    or_right : (a b : Bool) → b ≡ true → (a || b) ≡ true
-    or_right true b h = refl
-    or_right false b h = h
 
 none_long : (es : List Seen) → ((i : ℕ) → Fits es i) → some_long es ≡ false
 none_long [] h = refl

@@ -1,5 +1,6 @@
-use Rattle.std.proofs.Common.{◌≡◌, ℕ, suc, ◌+◌, ◌<◌, Bool, true, false, cond, ltb, List, [], ◌∷◌, ◌++◌, map, length, get_or, take, drop, is_ok, Ok, Err, Result, sym, ap, ◌∙◌, append_assoc, add-zero, arith}
-use Rattle.std.proofs.lemmas.List.{take_more, take_at, length-map, length-take-le}
+use Rattle.std.proofs.Common.{◌≡◌, ℕ, suc, ◌+◌, ◌<◌, min, Bool, true, false, cond, ltb, List, [], ◌∷◌, ◌++◌, map, length, get_or, take, drop, is_ok, Ok, Err, Result, sym, ap, ◌∙◌, ⊎_elim, append_assoc, add-zero, arith}
+use Rattle.std.proofs.lemmas.List.{take_more, take_all, take_at, length-map, length-take-le}
+use Rattle.std.proofs.lemmas.Bool.{cases_lt}
 use Rattle.refusals.specs.declared.fault.BundleFault.{BundleFault}
 use Rattle.refusals.specs.declared.refusal.Refusal.{Refusal}
 use Rattle.refusals.specs.declared.refusal.Refusal.TheVariants.{SmallBuffer}
@@ -25,6 +26,14 @@ lines_more vs i d h =
     let size : 0 + length (take i vs) ≡ i = omega (arith, length-take-le i vs (omega arith)) in
     ap (lines_from 0) (take_more vs i d h) ∙ lines_push 0 (take i vs) (get_or vs i d)
     ∙ ap (λ k. lines_from 0 (take i vs) ++ (line_text k (get_or vs i d) ++ newline)) size
+
+-- the first n, where the list may be shorter
+pub answer_lines : (judged : Result ℕ Refusal) (vs : List Verdict) (n m : ℕ) → judged ≡ Ok n → m ≡ min n (length vs)
+    → lines_from 0 (take m vs) ≡ answer_text judged vs
+answer_lines judged vs n m e least =
+    let front : take m vs ≡ take n vs =
+    ⊎_elim (λ h. ap (λ k. take k vs) (omega arith)) (λ h. take_all m vs (omega arith) ∙ sym (take_all n vs (omega arith))) (cases_lt n (length vs)) in
+    ap (lines_from 0) front ∙ ap (λ j. answer_text j vs) (sym e)
 
 counted_text : (small : Bool) (n : ℕ) (vs before after : List Verdict) (r : Result ℕ Refusal) → length vs ≡ n
     → r ≡ cond small (Err (SmallBuffer n)) (Ok n) → after ≡ cond (is_ok r) (vs ++ drop n before) before

@@ -1,5 +1,5 @@
 // A bundle's entries, read for a verifier.
-ghost use Rattle.std.specs.Prelude.{◌≡◌, ◌<◌, map};
+ghost use Rattle.std.specs.Prelude.{◌≡◌, map};
 ghost use Rattle.refusals.specs.Results.{map_ok, map_err};
 ghost use Rattle.refusals.specs.Faults.{raised};
 ghost use Rattle.bundle.specs.Places.{held_by};
@@ -23,8 +23,12 @@ impl<'a, V> BundleEntries<'a, V> {
     }
 }
 
-// Reads a certificate that begins at a place.
-fn raise<V: Verifier>(verifier: &V, bytes: &[u8], at: usize) -> Result<V::Certificate, BundleFault>
+// Reads a certificate that begins at a place of the bundle.
+fn read_raised<V: Verifier>(
+    verifier: &V,
+    bytes: &[u8],
+    at: usize,
+) -> Result<V::Certificate, BundleFault>
     ensures { map_ok V.Certificate.Certificate.parts result ≡ map_err (raised at) ((V.Verifier.judging verifier.now).reads (V.Verifier.judging verifier.now).members bytes.now) }
 {
     let certificate = verifier.read(bytes, verifier.members());
@@ -47,7 +51,7 @@ impl<'a, V: Verifier> Entries for BundleEntries<'a, V> {
     fn entry(&self, place: usize) -> Option<Entry<'_, V::Certificate>> {
         self.bundle.raw(place).map(|raw| Entry {
             message: raw.message,
-            certificate: raise(self.verifier, raw.certificate, raw.place),
+            certificate: read_raised(self.verifier, raw.certificate, raw.place),
         })
     }
 }

@@ -23,9 +23,9 @@ pub fn admit(input: &[u8]) -> Result<&[u8], BundleFault>
 }
 
 /// Reads a bundle and judges its entries.
-pub fn judge_input<'a, V: Verifier>(
-    verifier: &'a V,
-    input: &'a [u8],
+pub fn judge_input<V: Verifier>(
+    verifier: &V,
+    input: &[u8],
     verdicts: &mut [Verdict],
 ) -> Result<usize, Refusal>
     ensures { Concluded (V.Verifier.judging verifier.now) input.now verdicts.old verdicts.new result }

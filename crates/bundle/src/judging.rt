@@ -24,13 +24,12 @@ fn verdict<V: Verifier>(verifier: &V, entry: &Entry<'_, V::Certificate>) -> Verd
     ensures { result ≡ decided (V.Verifier.judging verifier.now) entry.now.message.now (map_ok V.Certificate.Certificate.parts entry.now.certificate) }
 {
     let subject: Message<'_, V::Namespace> = Message::new(entry.message);
-    let certificate = match entry.certificate {
-        Ok(certificate) => certificate,
-        Err(fault) => return Verdict::Faulty(fault),
-    };
-    match verifier.verify_certificate(&subject, &certificate) {
-        Ok(true) => Verdict::Accepted,
-        _ => Verdict::Rejected,
+    match &entry.certificate {
+        Err(fault) => Verdict::Faulty(*fault),
+        Ok(certificate) if verifier.verify_certificate(&subject, certificate).unwrap() => {
+            Verdict::Accepted
+        }
+        Ok(_) => Verdict::Rejected,
     }
 }
 
@@ -55,9 +54,7 @@ pub fn judge<V: Verifier, E: Entries<Certificate = V::Certificate>>(
         return Err(Refusal::SmallBuffer { needed: count });
     }
     for (place, slot) in verdicts[..count].iter_mut().enumerate() {
-        if let Some(entry) = entries.entry(place) {
-            *slot = verdict(verifier, &entry);
-        }
+        *slot = verdict(verifier, &entries.entry(place).unwrap());
     }
     Ok(count)
 }

@@ -1,9 +1,7 @@
--- A derived namespace is short. Assumes nothing.
-use Rattle.std.specs.Prelude.{ℕ, ◌≤◌, length}
+-- A namespace cut from a table is short. Assumes nothing.
+use Rattle.std.specs.Prelude.{ℕ, ◌≤◌, List, length, take}
 use Rattle.std.proofs.Common.{arith, length-take}
-use Rattle.buffers.specs.declared.table.Bounded.{Bounded}
-use Rattle.buffers.specs.Items.{items}
 use Rattle.schemes.specs.Subjects.{longest}
 
-pub cut_short : (b : Bounded ℕ longest) → length (items b) ≤ longest
-cut_short b = let h = b.within in omega (arith, length-take b.len b.table)
+pub cut_short : (n : ℕ) (bytes : List ℕ) (limit : ℕ) → n ≤ limit → limit ≤ longest → length (take n bytes) ≤ longest
+cut_short n bytes limit h k = omega (arith, length-take n bytes)

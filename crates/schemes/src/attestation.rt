@@ -8,7 +8,7 @@ pub struct Attestation {
 }
 
 /// How much of each of the two lent listings is the answer.
-// Counts and no slices: a listing that the result borrows from has no `.new` in a contract.
+// Counts and no slices: both listings are lent, as docs/RULES.md says.
 #[derive(Clone, Copy, PartialEq, Eq)]
 pub struct Verification {
     pub invalid: usize,

@@ -17,7 +17,8 @@ pub fn write_payload<B: Subject>(subject: &B, base: &[u8], out: &mut [u8]) -> Re
 
 impl Edition {
     /// The same of an edition: the base gets its `-E`.
-    // A call of its own, so that a contract names an edition's namespace.
+    // A call of its own, so that a contract speaks of an edition and of `-E` at once: without it an
+    // edition signed under the plain namespace would be proved.
     pub fn write_payload(&self, base: &[u8], out: &mut [u8]) -> Result<usize, Refusal>
         ensures { Signable edition base.now (record { message = self.now.bytes }) out.old out.new result }
     {

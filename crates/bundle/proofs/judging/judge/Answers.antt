@@ -1,27 +1,20 @@
-use Rattle.std.proofs.Common.{◌+◌, length, take, drop, ◌++◌, Ok, ap, ◌∙◌, length-take-le, arith}
+use Rattle.std.proofs.Common.{length, drop, ◌++◌, Ok, ap, ◌∙◌, length-take-le, arith}
 use Rattle.bundle.specs.Verdicts.{verdict, some_long}
 use Rattle.bundle.proofs.Messages.{short_there}
 use Rattle.bundle.proofs.Listing.{verdicts_more, verdicts_all, counted_all, not_long}
 use Rattle.bundle.proofs.judging.judge.Goals as goal
-use Rattle.bundle.proofs.judging.judge.Goals.{in-Some, in_default}
 
 pub verdict-requires : goal.verdict-requires
 verdict-requires g c =
     let es = g.E.Entries.entries c.args.entries.now in
-    let e = c.in-Some.ensures in
+    let e = rw (c.unwrap.ensures) at c.entry.ensures in
     short_there es _ _ e.0 e.1 (not_long c.messages_fit.result (some_long es) c.if-not-messages_fit.false c.messages_fit.ensures)
 
 pub loop-place-preserved : goal.loop-place-preserved
 loop-place-preserved g c =
     let es = g.E.Entries.entries c.args.entries.now in
-    let i = c.loop-place.place in
-    elim c.match-entry.branch [
-      | in-Some w ↦
-          let e = w.in-Some.ensures in
-          ap (take (i + 1)) w.slot-items-is
-          ∙ verdicts_more (verdict (g.V.Verifier.judging c.args.verifier.now)) es i _ c.loop-place.slot-items w.verdict.result e.0 (omega arith) e.1 w.verdict.ensures c.loop-place.invariant
-      | in_default w ↦ absurd (omega (arith, w.in_default.ensures, length-take-le c.len-count.result c.args.verdicts.now (omega arith)))
-    ]
+    let e = rw (c.unwrap.ensures) at c.entry.ensures in
+    verdicts_more (verdict (g.V.Verifier.judging c.args.verifier.now)) es c.loop-place.place _ c.loop-place.slot-items c.verdict.result e.0 (omega arith) e.1 c.verdict.ensures c.loop-place.invariant
 
 pub returns : goal.returns
 returns g c =
