@@ -1,7 +1,7 @@
 // Roll W, the example: the residue keys 2, 3, 5 and 7, fewer than a third faulty, no namespace.
 #![tactic(auto)]
 
-ghost use Rattle.std.specs.Prelude.{◌≡◌, [], MatchResult};
+ghost use Rattle.std.specs.Prelude.{◌≡◌, []};
 ghost use Rattle.buffers.specs.Items.{items};
 ghost use Rattle.keys.specs.Bytes.{big_endian};
 ghost use Rattle.rolls.specs.Roll.{keys_of};
@@ -9,14 +9,15 @@ ghost use Rattle.roll_w.specs.Keys.{keys_of_w};
 
 use keys::ResidueKey;
 use list_scheme::ListScheme;
-use refusals::Refusal;
 use rolls::{Faults, Member};
 use schemes::PlainNamespace;
 
-/// The list scheme of roll W; it is never refused.
+/// The list scheme of roll W, which is never refused.
 #[tactic(auto, using(crate::proofs::Fine::unrefused))]
-pub fn roll_of_w() -> Result<ListScheme<ResidueKey, PlainNamespace>, Refusal>
-    ensures { MatchResult result (λ s. (keys_of (λ k. big_endian 4 k.value) s.roll ≡ keys_of_w) × (s.faults ≡ Faults.N3f1) × (items s.namespace.bytes ≡ [])) (λ _. ⊥) }
+pub fn roll_of_w() -> ListScheme<ResidueKey, PlainNamespace>
+    ensures keys { keys_of (λ k. big_endian 4 k.value) result.roll ≡ keys_of_w }
+    ensures faults { result.faults ≡ Faults.N3f1 }
+    ensures namespace { items result.namespace.bytes ≡ [] }
 {
     ListScheme::verifier(
         &[],
@@ -28,4 +29,5 @@ pub fn roll_of_w() -> Result<ListScheme<ResidueKey, PlainNamespace>, Refusal>
         ],
         Faults::N3f1,
     )
+    .unwrap()
 }

@@ -12,10 +12,6 @@ use Rattle.table.proofs.Counts.{counted_is}
 one_part : (mark : ℕ) (cs : List ℕ) → length cs ≤ position_or_len (λ c. eqb c mark) cs → split_at mark cs ≡ cs ∷ []
 one_part mark cs e = slice_split_none (λ c. eqb c mark) cs (λ k d l. fails_before_first (λ c. eqb c mark) cs k d (omega arith))
 
-pub empty_word : (word : List ℕ) → length word ≡ 0 → word_bytes word ≡ None
-empty_word [] e = refl
-empty_word (c ∷ cs) e = absurd (omega arith)
-
 some_digits : (word : List ℕ) → 0 < length word → some_hex word ≡ hex_bytes word
 some_digits [] h = absurd (omega arith)
 some_digits (c ∷ cs) h = refl

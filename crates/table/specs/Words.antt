@@ -1,5 +1,5 @@
--- What words write. Assumes nothing.
-use Rattle.std.specs.Prelude.{◌≡◌, ℕ, ◌<◌, ◌≤◌, cond, ◌&&◌, List, [], ◌∷◌, ◌++◌, length, replicate, Some, None, Option, MatchOption, ◌==◌, nat_le}
+-- What words write, and what becomes of the room for it. Assumes nothing.
+use Rattle.std.specs.Prelude.{◌≡◌, ℕ, ◌<◌, ◌≤◌, cond, ◌&&◌, List, [], ◌∷◌, ◌++◌, length, take, replicate, Some, None, Option, MatchOption, ◌==◌, nat_le}
 use Rattle.std.specs.List.{slice_split}
 use Rattle.std.specs.Str.{all_ascii_digits}
 use Rattle.std.specs.Str.Parse.{IsNumeral, digits_value}
@@ -60,6 +60,12 @@ abbrev pub Unfit : Option (List ℕ) → ℕ → Type 0
 Unfit None room = Unit {0}
 Unfit (Some bytes) room = room < length bytes
 
+-- the bytes stand in front of a room, and their number is answered
+abbrev pub Put : Option (List ℕ) → List ℕ → Option ℕ → Type 0
+Put bytes room None = Unfit bytes (length room)
+Put bytes room (Some n) = (n ≤ length room) × (bytes ≡ Some (take n room))
+
 -- the bytes stand behind those that stood before, or together they are unfit
-abbrev pub Put : Option (List ℕ) → List ℕ → List ℕ → Option (Unit {0}) → Type 0
-Put bytes before after result = MatchOption result (Unfit (beside (Some before) bytes) max_bytes) (λ _. beside (Some before) bytes ≡ Some after)
+abbrev pub PutBehind : ℕ → Option (List ℕ) → List ℕ → List ℕ → Option (Unit {0}) → Type 0
+PutBehind room bytes before after result =
+    MatchOption result (Unfit (beside (Some before) bytes) room) (λ _. beside (Some before) bytes ≡ Some after)

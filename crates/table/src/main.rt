@@ -3,14 +3,14 @@
 
 mod words;
 
-use crate::words::LineBytes;
-use bundle::{Judgement, RefusedLine};
+use crate::words::{LineBytes, MAX_BYTES};
+use bundle::Judgement;
 use roll_w::roll_of_w;
 use schemes::Verifier;
 use std::io;
 use std::io::{BufRead, BufReader};
 
-// A line is a name, and the words of a bundle's bytes behind it.
+// A line is a name, and the words of a bundle's bytes behind it; a name alone means no bytes.
 fn answer_line<V: Verifier>(rt: &impl Print, verifier: &V, line: &str) -> io::Result<()> {
     if line.is_empty() || line.starts_with('#') {
         return Ok(());
@@ -20,7 +20,7 @@ fn answer_line<V: Verifier>(rt: &impl Print, verifier: &V, line: &str) -> io::Re
         return rt.print(Judgement::of(verifier, &[]));
     };
     rt.println(name)?;
-    match LineBytes::read(words) {
+    match LineBytes::<MAX_BYTES>::read(words) {
         Some(line) => rt.print(Judgement::of(verifier, line.as_slice())),
         None => rt.println("bad line"),
     }
@@ -34,8 +34,5 @@ fn answer_lines<V: Verifier>(rt: &HostRuntime, verifier: &V) -> io::Result<()> {
 }
 
 fn main(rt: HostRuntime) -> io::Result<()> {
-    match roll_of_w() {
-        Ok(scheme) => answer_lines(&rt, &scheme),
-        Err(refusal) => rt.println(RefusedLine { refusal }),
-    }
+    answer_lines(&rt, &roll_of_w())
 }

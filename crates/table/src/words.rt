@@ -2,7 +2,7 @@
 ghost use Rattle.std.specs.Prelude.{◌≡◌, replicate, Some, MatchOption};
 ghost use Rattle.buffers.specs.Items.{items};
 ghost use Rattle.table.specs.Hex.{hex_digit, hex_byte, hex_bytes};
-ghost use Rattle.table.specs.Words.{max_bytes, Counted, count_of, word_bytes, text_bytes, Unfit, Put};
+ghost use Rattle.table.specs.Words.{Counted, count_of, word_bytes, text_bytes, Unfit, PutBehind};
 
 use buffers::Bounded;
 
@@ -40,16 +40,17 @@ fn repeat_count(text: &str) -> Option<usize>
     text.parse().ok().filter(|count| *count <= MAX_BYTES)
 }
 
-/// The bytes that a line's words write.
+/// The bytes that a line's words write, at most `N`.
+// Not a `Vec`: each step would be a `Result` of an `Option`.
 #[derive(Drop)]
-pub struct LineBytes {
-    bytes: Bounded<u8, MAX_BYTES>,
+pub struct LineBytes<const N: usize> {
+    bytes: Bounded<u8, N>,
 }
 
-impl LineBytes {
-    // The calls named put write bytes behind the others; none if a word is bad, or the bytes are too many.
+impl<const N: usize> LineBytes<N> {
+    // Each `put_` pushes what its argument writes; `None` for a bad word or too many bytes.
     fn put_hex(&mut self, digits: &[u8]) -> Option<()>
-        ensures { Put (hex_bytes digits.now) (items self.old.bytes) (items self.new.bytes) result }
+        ensures { PutBehind N (hex_bytes digits.now) (items self.old.bytes) (items self.new.bytes) result }
     {
         for pair in digits.chunks(2) {
             self.bytes.push(byte(pair)?)?;
@@ -58,7 +59,7 @@ impl LineBytes {
     }
 
     fn put_repeated(&mut self, byte: u8, count: usize) -> Option<()>
-        ensures { Put (Some (replicate count byte)) (items self.old.bytes) (items self.new.bytes) result }
+        ensures { PutBehind N (Some (replicate count byte)) (items self.old.bytes) (items self.new.bytes) result }
     {
         for _ in 0..count {
             self.bytes.push(byte)?;
@@ -67,7 +68,7 @@ impl LineBytes {
     }
 
     fn put_word(&mut self, word: &str) -> Option<()>
-        ensures { Put (word_bytes word.now) (items self.old.bytes) (items self.new.bytes) result }
+        ensures { PutBehind N (word_bytes word.now) (items self.old.bytes) (items self.new.bytes) result }
     {
         if word.is_empty() {
             return None;
@@ -81,8 +82,8 @@ impl LineBytes {
     }
 
     /// Reads words that single spaces separate; none if a word is bad, or if the bytes are too many.
-    pub fn read(text: &str) -> Option<LineBytes>
-        ensures { MatchOption result (Unfit (text_bytes text.now) max_bytes) (λ line. text_bytes text.now ≡ Some (items line.bytes)) }
+    pub fn read(text: &str) -> Option<LineBytes<N>>
+        ensures { MatchOption result (Unfit (text_bytes text.now) N) (λ line. text_bytes text.now ≡ Some (items line.bytes)) }
     {
         let mut line = LineBytes {
             bytes: Bounded::new(0),

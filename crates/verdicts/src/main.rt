@@ -3,7 +3,7 @@
 
 ghost use Rattle.std.specs.Prelude.{◌≡◌, ◌≤◌, length, take, IfOk, IfSome};
 
-use bundle::{Judgement, RefusedLine};
+use bundle::Judgement;
 use refusals::MAX_INPUT;
 use roll_w::roll_of_w;
 use std::alloc::Global;
@@ -27,16 +27,13 @@ fn read_input<R: Read + Drop>(alloc: Global, reader: R) -> io::Result<Vec<u8>>
 
 fn main(rt: HostRuntime) -> io::Result<()> {
     let input = read_input(rt.alloc(), rt.stdin())?;
-    match roll_of_w() {
-        Ok(scheme) => rt.print(Judgement::of(&scheme, &input)),
-        Err(refusal) => rt.println(RefusedLine { refusal }),
-    }
+    rt.print(Judgement::of(&roll_of_w(), &input))
 }
 
 #[cfg(test)]
 mod tests {
     use super::*;
-    use bundle::{Line, Verdict};
+    use bundle::{Line, RefusedLine, Verdict};
     use refusals::{BundleFault, FaultKind, Layer, Refusal};
     use std::fmt;
     use std::process::Abort;

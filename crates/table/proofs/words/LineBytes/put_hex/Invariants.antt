@@ -6,7 +6,7 @@ use Rattle.table.specs.Words.{beside}
 use Rattle.table.proofs.words.LineBytes.put_hex.Given as goal
 
 abbrev pub invariant-loop-pair : goal.invariant-loop-pair
-invariant-loop-pair l = record {
+invariant-loop-pair g l = record {
   pairs : chunks_size l.pair-iterator ≡ 2;
   all : beside (Some (items l.self.bytes)) (hex_bytes (chunks_rest l.pair-iterator)) ≡ beside (Some (items l.initial.self.bytes)) (hex_bytes l.digits);
 }

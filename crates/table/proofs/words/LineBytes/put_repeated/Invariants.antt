@@ -3,4 +3,4 @@ use Rattle.buffers.specs.Items.{items}
 use Rattle.table.proofs.words.LineBytes.put_repeated.Given as goal
 
 abbrev pub invariant-loop : goal.invariant-loop
-invariant-loop l = items l.self.bytes ≡ items l.initial.self.bytes ++ replicate l.counter l.byte
+invariant-loop g l = items l.self.bytes ≡ items l.initial.self.bytes ++ replicate l.counter l.byte

@@ -19,22 +19,22 @@ ended steps v s t [] h k = refl
 ended steps v s t (y ∷ rest) h k = absurd (h.runs.0 t k)
 
 pub loop-word-init : goal.loop-word-init
-loop-word-init c =
+loop-word-init g c =
     let made = c.split-word-items.ensures in
     let words = YieldsList-from_str_split 32 c.args.text.now (lit< tt) made.text made.has_more made.pattern in
     (split_at 32 c.args.text.now, YieldsList-at c.into_iter-word-iterator.ensures.into_iter_gives words, rw c.new.ensures (beside_none (text_bytes c.args.text.now)))
 
 pub loop-word-preserved : goal.loop-word-preserved
-loop-word-preserved c =
+loop-word-preserved g c =
     let n = next _ _ c.loop-word.word-iterator c.next.new.self c.in-Some.word _ c.loop-word.invariant.1 c.in-Some.ensures.steps in
     (n.0, n.2, more_bytes _ _ _ _ _ _ n.1 c.in_ok-put_word.ensures c.loop-word.invariant.2)
 
 pub returns-in_err-put_word : goal.returns-in_err-put_word
-returns-in_err-put_word c =
+returns-in_err-put_word g c =
     let n = next _ _ c.loop-word.word-iterator c.next.new.self c.in-Some.word _ c.loop-word.invariant.1 c.in-Some.ensures.steps in
-    rw c.from_residual.ensures (too_many _ _ _ _ _ n.1 c.in_err-put_word.ensures c.loop-word.invariant.2)
+    rw c.from_residual.ensures (too_many _ _ _ _ _ _ n.1 c.in_err-put_word.ensures c.loop-word.invariant.2)
 
 pub returns : goal.returns
-returns c =
+returns g c =
     let e = ended _ _ _ _ _ c.loop-word.invariant.1 c.in-None.ensures.steps in
     sym c.loop-word.invariant.2 ∙ ap (λ words. beside (Some (items c.loop-word.line.bytes)) (all_bytes words)) e ∙ ap Some (append-nil (items c.loop-word.line.bytes))

@@ -7,6 +7,6 @@ use Rattle.table.specs.Words.{beside, all_bytes, text_bytes}
 use Rattle.table.proofs.words.LineBytes.read.Given as goal
 
 abbrev pub invariant-loop-word : goal.invariant-loop-word
-invariant-loop-word l =
+invariant-loop-word g l =
     (left : List (List ℕ)) × YieldsList (split_steps FindsChar (λ a b. b ≡ a)) (λ word. word.now) l.word-iterator left
     × (beside (Some (items l.line.bytes)) (all_bytes left) ≡ text_bytes l.text)
