@@ -109,6 +109,7 @@ impl<K: KeyCheck, N: Namespace> Verifier for ListScheme<K, N> {
         if !self.fits(certificate) {
             return Ok(false);
         }
+        // A table with its length beside: `union_unique` writes into a lent slice, and nothing is allocated.
         let mut payload = [0u8; MAX_PAYLOAD];
         let size = union_unique(subject.namespace(&self.namespace), message, &mut payload)?;
         Ok(self.all_good(&payload[..size], certificate))
