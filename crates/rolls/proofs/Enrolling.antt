@@ -4,7 +4,7 @@ use Rattle.std.specs.Borrow.{Bor}
 use Rattle.std.specs.Cmp.Lexicographic.{slice_partial_cmp}
 use Rattle.std.specs.Ordering.{nat_cmp, is_lt, is_some_and}
 use Rattle.std.proofs.lemmas.Bool.Decides.{nat_tests}
-use Rattle.std.proofs.lemmas.Bool.{eq-eqb, ne_eqb, and_from, and_right}
+use Rattle.std.proofs.lemmas.Bool.{eq-eqb, ne_eqb, and_from}
 use Rattle.std.proofs.lemmas.Cmp.{same_from_slice_cmp_tested}
 use Rattle.std.proofs.lemmas.List.{get_or-map, length-map, map_push, take_more}
 use Rattle.rolls.specs.Enrolled.{before, fine}
@@ -42,10 +42,6 @@ module _ {K : Type 0} (is_key : List ℕ → Bool) (key : K → List ℕ) (ms : 
   fine_is : i < length ms → Filled is_key key (raw_keys ms) i ks below → Stands below (get_or ms i d).key.now b
       → fine is_key (raw_keys ms) i ≡ (is_key (get_or (raw_keys ms) i []) && b)
   fine_is l f s = ap (λ z. is_key (get_or (raw_keys ms) i []) && z) (above (raw_keys ms) i below b f.last (rw (raw_at l) s))
-
-  pub not_above : i < length ms → Filled is_key key (raw_keys ms) i ks below → Stands below (get_or ms i d).key.now b → b ≡ false
-      → fine is_key (raw_keys ms) i ≡ false
-  not_above l f s e = fine_is l f s ∙ and_right (is_key (get_or (raw_keys ms) i [])) b e
 
   pub filled_more : (k : K) (after : List K) → i < length ms → Filled is_key key (raw_keys ms) i ks below → Stands below (get_or ms i d).key.now b → b ≡ true
       → is_key (key k) ≡ true → key k ≡ (get_or ms i d).key.now → after ≡ ks ++ k ∷ []

@@ -1,6 +1,6 @@
 use Rattle.std.proofs.Common.{◌+◌, Err, sym, ap, ◌∙◌, arith}
 use Rattle.std.proofs.lemmas.Grind.{common_steps}
-use Rattle.std.proofs.lemmas.List.{length-map, map_push}
+use Rattle.std.proofs.lemmas.List.{map_push}
 use Rattle.std.proofs.lemmas.Option.{MatchOption-at_some}
 use Rattle.std.proofs.lemmas.Result.{err_from_is_err_and}
 use Rattle.refusals.specs.declared.fault.FaultKind.TheVariants.{ExtraData}
@@ -23,9 +23,6 @@ loop-preserved c =
     let e = c.in_ok-entry.ensures in
     let p = MatchOption-at_some _ _ _ c.unwrap.ensures c.push.ensures in
     rw (p, map_push) (reading_more _ _ _ _ _ _ _ _ (raw_of c.in_ok-entry.field-0) c.loop.invariant c.loop-test.true e.entry e.left e.place e.short)
-
-pub unwrap-requires : goal.unwrap-requires
-unwrap-requires c = grind (arith, common_steps, length-map)
 
 pub returns-in_err-entry : goal.returns-in_err-entry
 returns-in_err-entry c =

@@ -29,8 +29,5 @@ found c =
 pub returns-then-count-as_slice : goal.returns-then-count-as_slice
 returns-then-count-as_slice c = grind (arith, common_steps, found (goal.at.returns-then-count-as_slice c).In_ok-signatures)
 
-pub returns-then-not-is_empty : goal.returns-then-not-is_empty
-returns-then-not-is_empty c = grind (arith, common_steps, found (goal.at.returns-then-not-is_empty c).In_ok-signatures)
-
 pub returns : goal.returns
 returns c = grind (arith, common_steps, found (goal.at.returns c).In_ok-signatures)
