@@ -1,11 +1,13 @@
 // The items of a bounded list.
-ghost use Rattle.std.specs.Prelude.{◌≡◌, ◌+◌, ◌<◌, ◌≤◌, [], ◌∷◌, ◌++◌, length, MatchOption};
+ghost use Rattle.std.specs.Prelude.{◌≡◌, ◌+◌, ◌<◌, ◌≤◌, [], ◌∷◌, ◌++◌, length, replicate, MatchOption};
 ghost use Rattle.buffers.specs.Items.{items};
 
 use crate::table::Bounded;
 
+// Inlined always: a list of large items is then made and filled where it lies, and LLVM copies no item by itself.
 impl<T: Copy, const N: usize> Bounded<T, N> {
     /// An empty list; a blank lies in each free place.
+    #[inline(always)]
     pub fn new(blank: T) -> Bounded<T, N>
         ensures { items result ≡ [] }
     {
@@ -16,6 +18,7 @@ impl<T: Copy, const N: usize> Bounded<T, N> {
     }
 
     /// Puts an item behind the others; `None`, and nothing changes, without room.
+    #[inline(always)]
     pub fn push(&mut self, item: T) -> Option<()>
         ensures { MatchOption result ((length (items self.old) ≡ N) × (self.new ≡ self.old)) (λ _. items self.new ≡ items self.old ++ item ∷ []) }
     {
@@ -28,6 +31,7 @@ impl<T: Copy, const N: usize> Bounded<T, N> {
     }
 
     /// Puts items behind the others; `None`, and nothing changes, without room for all.
+    #[inline(always)]
     pub fn extend_from_slice(&mut self, more: &[T]) -> Option<()>
         ensures { MatchOption result ((N < length (items self.old) + length more.now) × (self.new ≡ self.old)) (λ _. items self.new ≡ items self.old ++ more.now) }
     {
@@ -42,7 +46,23 @@ impl<T: Copy, const N: usize> Bounded<T, N> {
         Some(())
     }
 
+    /// Puts an item behind the others, so many times; `None`, and nothing changes, without room for all.
+    pub fn extend_repeated(&mut self, item: T, count: usize) -> Option<()>
+        ensures { MatchOption result ((N < length (items self.old) + count) × (self.new ≡ self.old)) (λ _. items self.new ≡ items self.old ++ replicate count item) }
+    {
+        if count > N - self.len {
+            return None;
+        }
+        let room = &mut self.table[..];
+        for slot in &mut room[self.len..self.len + count] {
+            *slot = item;
+        }
+        self.len += count;
+        Some(())
+    }
+
     /// The items, in order.
+    #[inline(always)]
     pub fn as_slice(&self) -> &[T]
         ensures items { result.now ≡ items self.now }
         ensures few { length result.now ≤ N }
