@@ -6,7 +6,6 @@ ghost use Rattle.std.specs.Prelude.{◌≡◌, ◌≤◌, length, take, IfOk, If
 use bundle::Judgement;
 use refusals::MAX_INPUT;
 use roll_w::roll_of_w;
-use std::alloc::Global;
 use std::io;
 use std::io::Read;
 
@@ -14,20 +13,26 @@ use std::io::Read;
 const ROOM: usize = MAX_INPUT + 1;
 
 // Reads to the end, and no more than there is room for.
-fn read_input<R: Read + Drop>(alloc: Global, reader: R) -> io::Result<Vec<u8>>
-    ensures few { IfOk result (λ input. length input.items ≤ ROOM) }
-    ensures bytes { IfOk result (λ input. IfSome (R.remaining reader) (λ bytes. input.items ≡ take ROOM bytes)) }
+// Each read is lent all the room that is left, and nothing is allocated: no answer depends on memory.
+fn read_input<'a, R: Read>(reader: &mut R, room: &'a mut [u8]) -> io::Result<&'a [u8]>
+    ensures few { IfOk result (λ input. length input.now ≤ length room.old) }
+    ensures bytes { IfOk result (λ input. IfSome (R.remaining reader.old) (λ bytes. input.now ≡ take (length room.old) bytes)) }
 {
-    let mut input = Vec::new(alloc);
-    reader.take(ROOM as u64).read_to_end(&mut input)?;
-    // Of a reader whose bytes are not known, `read_to_end` promises no length.
-    input.truncate(ROOM);
-    Ok(input)
+    let mut len = 0;
+    for _ in 0..room.len() {
+        let more = reader.read(&mut room[len..])?;
+        if more == 0 {
+            break;
+        }
+        len += more;
+    }
+    Ok(&room[..len])
 }
 
 fn main(rt: HostRuntime) -> io::Result<()> {
-    let input = read_input(rt.alloc(), rt.stdin())?;
-    rt.print(Judgement::of(&roll_of_w(), &input))
+    let mut room = [0; ROOM];
+    let input = read_input(&mut rt.stdin(), &mut room)?;
+    rt.print(Judgement::of(&roll_of_w(), input))
 }
 
 #[cfg(test)]
