@@ -3,7 +3,7 @@
 
 mod words;
 
-use crate::words::{LineBytes, MAX_BYTES};
+use crate::words::LineBytes;
 use bundle::Judgement;
 use roll_w::roll_of_w;
 use schemes::Verifier;
@@ -20,7 +20,7 @@ fn answer_line<V: Verifier>(rt: &impl Print, verifier: &V, line: &str) -> io::Re
         return rt.print(Judgement::of(verifier, &[]));
     };
     rt.println(name)?;
-    match LineBytes::<MAX_BYTES>::read(words) {
+    match LineBytes::read(words) {
         Some(line) => rt.print(Judgement::of(verifier, line.as_slice())),
         None => rt.println("bad line"),
     }

@@ -1,7 +1,7 @@
 use Rattle.std.proofs.Common.{◌∙◌}
 use Rattle.std.specs.Slice.Iter.{chunks_rest}
 use Rattle.table.proofs.Laws.{one_more, no_room}
-use Rattle.table.proofs.words.LineBytes.put_hex.Goals as goal
+use Rattle.table.proofs.words.put_hex.Goals as goal
 
 pub loop-pair-preserved : goal.loop-pair-preserved
 loop-pair-preserved g c = record {

@@ -3,9 +3,9 @@ use Rattle.std.proofs.lemmas.Iterator.{YieldsList}
 use Rattle.std.proofs.lemmas.Iterator.Consumers.{YieldsList-at}
 use Rattle.std.proofs.lemmas.Iterator.Splits.{YieldsList-from_str_split}
 use Rattle.buffers.specs.Items.{items}
-use Rattle.table.specs.Words.{beside, split_at, all_bytes, text_bytes}
-use Rattle.table.proofs.Laws.{beside_none, more_bytes, too_many}
-use Rattle.table.proofs.words.LineBytes.read.Goals as goal
+use Rattle.table.specs.Words.{beside, split_at, all_bytes}
+use Rattle.table.proofs.Laws.{more_bytes, too_many}
+use Rattle.table.proofs.words.put_words.Goals as goal
 
 -- what a step takes is the first of those that come
 next : {S A B : Type 0} (steps : S → Option A → S → Type 0) (v : A → B) (s t : S) (x : A) (left : List B) → YieldsList steps v s left → steps s (Some x) t
@@ -22,7 +22,7 @@ pub loop-word-init : goal.loop-word-init
 loop-word-init g c =
     let made = c.split-word-items.ensures in
     let words = YieldsList-from_str_split 32 c.args.text.now (lit< tt) made.text made.has_more made.pattern in
-    (split_at 32 c.args.text.now, YieldsList-at c.into_iter-word-iterator.ensures.into_iter_gives words, rw c.new.ensures (beside_none (text_bytes c.args.text.now)))
+    (split_at 32 c.args.text.now, YieldsList-at c.into_iter-word-iterator.ensures.into_iter_gives words, refl)
 
 pub loop-word-preserved : goal.loop-word-preserved
 loop-word-preserved g c =
@@ -37,4 +37,4 @@ returns-in_err-put_word g c =
 pub returns : goal.returns
 returns g c =
     let e = ended _ _ _ _ _ c.loop-word.invariant.1 c.in-None.ensures.steps in
-    sym c.loop-word.invariant.2 ∙ ap (λ words. beside (Some (items c.loop-word.line.bytes)) (all_bytes words)) e ∙ ap Some (append-nil (items c.loop-word.line.bytes))
+    sym c.loop-word.invariant.2 ∙ ap (λ words. beside (Some (items c.loop-word.line)) (all_bytes words)) e ∙ ap Some (append-nil (items c.loop-word.line))

@@ -1,6 +1,6 @@
 use Rattle.std.proofs.Common.{refl, rules}
 use Rattle.table.proofs.Parts.{plain_word, starred_word}
-use Rattle.table.proofs.words.LineBytes.put_word.Goals as goal
+use Rattle.table.proofs.words.put_word.Goals as goal
 
 pub returns-in_err-byte-in-Some : goal.returns-in_err-byte-in-Some
 returns-in_err-byte-in-Some g c =
