@@ -9,17 +9,20 @@ use Rattle.refusals.specs.declared.fault.FaultKind.TheVariants.{InvalidLength}
 use Rattle.refusals.specs.declared.refusal.Refusal.{Refusal}
 use Rattle.refusals.specs.declared.refusal.Refusal.TheVariants.{SmallBuffer}
 use Rattle.schemes.specs.Judging.{Judging}
-use Rattle.bundle.specs.Layout.{Raw, Short, Limited, bundle, fault}
+use Rattle.bundle.specs.Layout.{Raw, Short, bundle, fault}
 use Rattle.bundle.specs.declared.verdict.Verdict.{Verdict}
 use Rattle.bundle.specs.Verdicts.{seen, some_long, verdict, counted, Judged, answered, admitted, listed, Concluded}
+use Rattle.bundle.proofs.Definitions.{bundle_limited}
 
 short_seen : (j : Judging) (rs : List Raw) → AllByRecursion Short rs → some_long (map (seen j) rs) ≡ false
 short_seen j [] h = refl
 short_seen j (r ∷ rs) h = or_from (ltb max_message (length r.message)) (some_long (map (seen j) rs)) (le-ltb max_message (length r.message) h.0.0) (short_seen j rs h.1)
 
+-- judging the entries of a bundle that was read is judging the input
 pub concluded : (j : Judging) (input : List ℕ) (rs : List Raw) (before after : List Verdict) (r : Result ℕ Refusal)
-    → length input ≤ max_input → bundle input ≡ Ok rs → Limited rs → Judged j (map (seen j) rs) before after r → Concluded j input before after r
-concluded j input rs before after r h e few d =
+    → length input ≤ max_input → bundle input ≡ Ok rs → Judged j (map (seen j) rs) before after r → Concluded j input before after r
+concluded j input rs before after r h e d =
+    let few = bundle_limited input rs e in
     let es = map (seen j) rs in
     let room = length before in
     let l : length es ≡ length rs = length-map rs (seen j) in

@@ -1,5 +1,6 @@
 -- A bundle without faults is the writing of its entries, of the definitions alone. Assumes nothing.
-use Rattle.std.proofs.Common.{◌≡◌, ℕ, zero, suc, ◌+◌, ◌*◌, ◌/◌, ◌%◌, ◌<◌, ◌≤◌, Bool, true, false, cond, eqb, ltb, List, [], ◌∷◌, ◌++◌, map, length, take, drop, Ok, Err, Result, sym, refl, ap, ◌∙◌, zero-add, div-one, arith}
+use Rattle.std.proofs.Common.{◌≡◌, ℕ, zero, suc, ◌+◌, ◌*◌, ◌/◌, ◌%◌, ◌<◌, ◌≤◌, Bool, true, false, cond, eqb, ltb, List, [], ◌∷◌, ◌++◌, map, length, take, drop, Ok, Err, Result, sym, refl, ap, subst, ◌∙◌, zero-add, div-one, arith}
+use Rattle.std.specs.List.{AllByRecursion}
 use Rattle.std.proofs.lemmas.List.{drop-drop, length-drop, length-take-le, append_assoc, take-append-drop, get_or-drop, nil_from_length}
 use Rattle.std.proofs.lemmas.Bool.{le-ltb, ltb-false, or_from, eqb-true}
 use Rattle.refusals.specs.Limits.{max_message, max_certificates}
@@ -11,7 +12,7 @@ use Rattle.keys.specs.Bytes.{big_endian}
 use Rattle.keys.proofs.Octets.{Octets}
 use Rattle.schemes.specs.Judging.{Judging}
 use Rattle.bundle.specs.Verdicts.{seen, some_long}
-use Rattle.bundle.specs.Layout.{bundle, field, fault, prefix, opening, closing, entry, entries, following, size, max_prefix, Raw, field_written, entries_written, bundle_written}
+use Rattle.bundle.specs.Layout.{bundle, field, fault, prefix, opening, closing, entry, entries, following, size, max_prefix, Raw, Short, Limited, field_written, entries_written, bundle_written}
 
 three : {X E : Type 0} (a b c : Bool) (e f g : E) (x y : X) → cond a (Err e) (cond b (Err f) (cond c (Err g) (Ok x))) ≡ Ok y → (a ≡ false) × (b ≡ false) × (c ≡ false) × (x ≡ y)
 three true b c e f g x y h = never (cc)
@@ -118,6 +119,27 @@ bundle_limits j bs rs h =
     let k = o.1 in let l = e.0 in
     (omega arith, e.1)
 
+entries-count : (k at : ℕ) (bs : List ℕ) (rs : List Raw) → entries k at bs ≡ Ok rs → length rs ≡ k
+entries-count zero at bs rs h = ap length (none_left at bs rs h).0
+entries-count (suc k) at bs rs h =
+    let s = split k at bs rs h in
+    ap length s.joined ∙ ap suc (entries-count k (at + size s.head) (drop (size s.head) bs) s.tail s.rest)
+
+entries_short : (k at : ℕ) (bs : List ℕ) (rs : List Raw) → entries k at bs ≡ Ok rs → AllByRecursion Short rs
+entries_short zero at bs rs h = let n = none_left at bs rs h in subst (λ (z : List Raw). AllByRecursion Short z) (sym n.0) tt
+entries_short (suc k) at bs rs h =
+    let s = split k at bs rs h in
+    let t = entries_short k (at + size s.head) (drop (size s.head) bs) s.tail s.rest in
+    subst (λ (z : List Raw). AllByRecursion Short z) (sym s.joined) ((s.first.message.small, s.first.certificate.small), t)
+
+-- the entries of a bundle without faults are within the limits
+pub bundle_limited : (bs : List ℕ) (rs : List Raw) → bundle bs ≡ Ok rs → Limited rs
+bundle_limited bs rs h =
+    let o = opened bs rs h in
+    let l = entries-count (prefix bs) 2 (drop 2 bs) rs o.2 in
+    let k = o.1 in
+    (omega arith, entries_short (prefix bs) 2 (drop 2 bs) rs o.2)
+
 bytes_drop : (n : ℕ) (bs : List ℕ) → Octets bs → Octets (drop n bs)
 bytes_drop n bs h i = let e = get_or-drop n bs i 0 in let k = h (n + i) in omega arith
 
@@ -161,9 +183,3 @@ bundle_back bs rs h b =
     let l = entries-count (prefix bs) 2 (drop 2 bs) rs o.2 in
     prefix-written bs o.0 b
     ∙ (λ i. big_endian 2 (sym l i) ++ entries_back (prefix bs) 2 (drop 2 bs) rs o.2 (bytes_drop 2 bs b) i)
-  where
-    entries-count : (k at : ℕ) (bs : List ℕ) (rs : List Raw) → entries k at bs ≡ Ok rs → length rs ≡ k
-    entries-count zero at bs rs h = ap length (none_left at bs rs h).0
-    entries-count (suc k) at bs rs h =
-        let s = split k at bs rs h in
-        ap length s.joined ∙ ap suc (entries-count k (at + size s.head) (drop (size s.head) bs) s.tail s.rest)

@@ -1,12 +1,19 @@
 -- Fields and entries of a bundle. Assumes nothing.
-use Rattle.std.proofs.Common.{◌≡◌, ℕ, suc, ◌+◌, ◌<◌, ◌≤◌, List, ◌++◌, length, take, drop, Ok, Err, sym, refl, ap, ◌∙◌, arith}
+use Rattle.std.proofs.Common.{◌≡◌, ℕ, ◌+◌, ◌*◌, ◌<◌, ◌≤◌, List, ◌∷◌, ◌++◌, length, get_or, take, drop, Ok, Err, sym, refl, ap, ◌∙◌, zero-add, arith}
 use Rattle.std.proofs.lemmas.Bool.{lt-ltb, le-ltb}
-use Rattle.std.proofs.lemmas.List.{drop_at}
+use Rattle.std.proofs.lemmas.List.{drop_at, drop_more, length-drop}
 use Rattle.refusals.specs.declared.fault.BundleFault.{BundleFault}
 use Rattle.refusals.specs.declared.fault.FaultKind.TheVariants.{EndOfBuffer, InvalidLength}
 use Rattle.refusals.specs.Limits.{max_message}
 use Rattle.keys.specs.Bytes.{big_endian}
 use Rattle.bundle.specs.Layout.{field, fault, prefix, opening, closing, entry, max_prefix, field_written}
+
+-- two bytes at a place
+pub prefix_at : (bs : List ℕ) (at : ℕ) → at + 2 ≤ length bs → prefix (drop at bs) ≡ get_or bs at 0 * 256 + get_or bs (at + 1) 0
+prefix_at bs at h =
+    let a = drop_more bs at 0 (omega arith) in
+    let b = drop_more bs (at + 1) 0 (omega arith) in
+    ap prefix (a ∙ ap (λ z. get_or bs at 0 ∷ z) b) ∙ ap (λ z. z * 256 + get_or bs (at + 1) 0) (zero-add (get_or bs at 0))
 
 pub prefix_again : (n : ℕ) (rest : List ℕ) → n ≤ max_prefix → prefix (big_endian 2 n ++ rest) ≡ n
 prefix_again n rest h = omega arith
@@ -20,18 +27,35 @@ unfolding field
 field_large limit at bs h k = rw (le-ltb (length bs) 2 h, lt-ltb limit (prefix bs) k) refl
 
 -- behind a length within its limit there are too few bytes
-pub field_cut : (limit at n : ℕ) (bs rest : List ℕ) → bs ≡ big_endian 2 n ++ rest → n ≤ limit → n ≤ max_prefix → length rest < n
-    → field limit at bs ≡ Err (fault EndOfBuffer (at + 2))
+pub field_cut : (limit at : ℕ) (bs : List ℕ) → 2 ≤ length bs → prefix bs ≤ limit → length bs < 2 + prefix bs → field limit at bs ≡ Err (fault EndOfBuffer (at + 2))
 unfolding field
-field_cut limit at n bs rest e h k l =
-    ap (field limit at) e ∙ rw (le-ltb (suc (suc (length rest))) 2 (omega arith), prefix_again n rest k, le-ltb limit n h, lt-ltb (length rest) n l) refl
+field_cut limit at bs h k l =
+    let d = length-drop 2 bs in
+    rw (le-ltb (length bs) 2 h, le-ltb limit (prefix bs) k, lt-ltb (length (drop 2 bs)) (prefix bs) (omega arith)) refl
 
 -- or enough
-pub field_whole : (limit at n : ℕ) (bs rest : List ℕ) → bs ≡ big_endian 2 n ++ rest → n ≤ limit → n ≤ max_prefix → n ≤ length rest
-    → field limit at bs ≡ Ok (take n rest)
+pub field-whole : (limit at : ℕ) (bs : List ℕ) → 2 ≤ length bs → prefix bs ≤ limit → 2 + prefix bs ≤ length bs → field limit at bs ≡ Ok (take (prefix bs) (drop 2 bs))
 unfolding field
-field_whole limit at n bs rest e h k l =
-    ap (field limit at) e ∙ rw (le-ltb (suc (suc (length rest))) 2 (omega arith), prefix_again n rest k, le-ltb limit n h, le-ltb (length rest) n l) refl
+field-whole limit at bs h k l =
+    let d = length-drop 2 bs in
+    rw (le-ltb (length bs) 2 h, le-ltb limit (prefix bs) k, le-ltb (length (drop 2 bs)) (prefix bs) (omega arith)) refl
+
+-- both, where the length and the bytes behind it have names
+module _ (limit at n : ℕ) (bs rest : List ℕ) (e : bs ≡ big_endian 2 n ++ rest) (h : n ≤ limit) (k : n ≤ max_prefix) where
+  prefix_is : prefix bs ≡ n
+  prefix_is = ap prefix e ∙ prefix_again n rest k
+
+  length-is : length bs ≡ 2 + length rest
+  length-is = ap length e ∙ omega arith
+
+  pub cut_behind : length rest < n → field limit at bs ≡ Err (fault EndOfBuffer (at + 2))
+  cut_behind l = let p = prefix_is in let s = length-is in field_cut limit at bs (omega arith) (omega arith) (omega arith)
+
+  pub whole_behind : n ≤ length rest → field limit at bs ≡ Ok (take n rest)
+  whole_behind l =
+      let p = prefix_is in
+      let s = length-is in
+      field-whole limit at bs (omega arith) (omega arith) (omega arith) ∙ (λ i. Ok (take (p i) (drop 2 (e i))))
 
 pub entry_first : (at : ℕ) (bs : List ℕ) (f : BundleFault) → Err f ≡ field max_message at bs → Err f ≡ entry at bs
 unfolding entry

@@ -15,7 +15,7 @@ Fits es i = (d : Seen) → i < length es → length (get_or es i d).message ≤ 
 abbrev pub Long : List Seen → ℕ → Type 0
 Long es i = (d : Seen) → (i < length es) × (max_message < length (get_or es i d).message)
 
-long_found : (es : List Seen) (i : ℕ) (d : Seen) → i < length es → max_message < length (get_or es i d).message → some_long es ≡ true
+pub long_found : (es : List Seen) (i : ℕ) (d : Seen) → i < length es → max_message < length (get_or es i d).message → some_long es ≡ true
 long_found [] i d h k = absurd (omega arith)
 long_found (e ∷ es) zero d h k = ap (λ b. b || some_long es) (lt-ltb max_message (length e.message) k)
 long_found (e ∷ es) (suc i) d h k = or_right (ltb max_message (length e.message)) (some_long es) (long_found es i d (omega arith) k)
@@ -25,7 +25,7 @@ none_long [] h = refl
 none_long (e ∷ es) h =
     or_from (ltb max_message (length e.message)) (some_long es) (le-ltb max_message (length e.message) (h 0 e (omega arith))) (none_long es (λ i d k. h (suc i) d (omega arith)))
 
-short_at : (es : List Seen) (i : ℕ) (d : Seen) → i < length es → some_long es ≡ false → length (get_or es i d).message ≤ max_message
+pub short_at : (es : List Seen) (i : ℕ) (d : Seen) → i < length es → some_long es ≡ false → length (get_or es i d).message ≤ max_message
 short_at [] i d h q = absurd (omega arith)
 short_at (e ∷ es) zero d h q = ltb-false max_message (length e.message) (or_parts (ltb max_message (length e.message)) (some_long es) q).0
 short_at (e ∷ es) (suc i) d h q = short_at es i d (omega arith) (or_parts (ltb max_message (length e.message)) (some_long es) q).1

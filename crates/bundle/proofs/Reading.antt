@@ -20,11 +20,16 @@ pub bundle_large : (bs : List ℕ) → 2 ≤ length bs → max_certificates < pr
 unfolding bundle
 bundle_large bs h k = rw (le-ltb (length bs) 2 h, lt-ltb max_certificates (prefix bs) k) refl
 
-pub bundle_entries : (count : ℕ) (rest : List ℕ) → count ≤ max_certificates → bundle (big_endian 2 count ++ rest) ≡ entries count 2 rest
+-- else a bundle is what its entries are
+pub bundle-entries : (bs : List ℕ) → 2 ≤ length bs → prefix bs ≤ max_certificates → bundle bs ≡ entries (prefix bs) 2 (drop 2 bs)
 unfolding bundle
-bundle_entries count rest h =
+bundle-entries bs h k = rw (le-ltb (length bs) 2 h, le-ltb max_certificates (prefix bs) k) refl
+
+-- the same where the count and the bytes behind it have names
+pub bundle_behind : (count : ℕ) (rest : List ℕ) → count ≤ max_certificates → bundle (big_endian 2 count ++ rest) ≡ entries count 2 rest
+bundle_behind count rest h =
     let p = prefix_again count rest (omega arith) in
-    rw (le-ltb (suc (suc (length rest))) 2 (omega arith), p, le-ltb max_certificates count h) refl
+    bundle-entries (big_endian 2 count ++ rest) (omega arith) (omega arith) ∙ ap (λ n. entries n 2 rest) p
 
 -- what follows an entry
 pub behind : (r : Raw) (rest : List ℕ) → drop (size r) (field_written r.message ++ (field_written r.certificate ++ rest)) ≡ rest
@@ -45,7 +50,7 @@ pub reading_none : (bs : List ℕ) (count place : ℕ) (rest : List ℕ) → bs 
 reading_none bs count place rest w h p =
     record {
       so_many = refl;
-      whole = all_ok (entries (count - 0) place rest) ∙ (λ i. entries (let e : count - 0 ≡ count = omega arith in e i) (p i) rest) ∙ sym (bundle_entries count rest h) ∙ ap bundle (sym w);
+      whole = all_ok (entries (count - 0) place rest) ∙ (λ i. entries (let e : count - 0 ≡ count = omega arith in e i) (p i) rest) ∙ sym (bundle_behind count rest h) ∙ ap bundle (sym w);
       written = w;
       short = tt;
     }

@@ -6,13 +6,13 @@ use Rattle.refusals.specs.Limits.{max_message}
 use Rattle.refusals.specs.Results.{map_ok}
 use Rattle.refusals.specs.declared.fault.BundleFault.{BundleFault}
 use Rattle.bundle.specs.Layout.{Raw, Pair, pair_of, max_prefix, field, entry, entries, bundle, following, size, field_written, entries_written, bundle_written, Short, Limited}
-use Rattle.bundle.proofs.Fields.{field_whole, entry_whole}
-use Rattle.bundle.proofs.Reading.{bundle_entries, behind}
+use Rattle.bundle.proofs.Fields.{whole_behind, entry_whole}
+use Rattle.bundle.proofs.Reading.{bundle_behind, behind}
 
 field_again : (limit at : ℕ) (bs rest : List ℕ) → length bs ≤ limit → length bs ≤ max_prefix → Ok bs ≡ field limit at (field_written bs ++ rest)
 field_again limit at bs rest h k =
     let l = length-append bs rest in
-    sym (field_whole limit at (length bs) (field_written bs ++ rest) (bs ++ rest) refl h k (omega arith) ∙ ap Ok (take_at bs rest (length bs) refl))
+    sym (whole_behind limit at (length bs) (field_written bs ++ rest) (bs ++ rest) refl h k (omega arith) ∙ ap Ok (take_at bs rest (length bs) refl))
 
 -- an entry that begins at a place
 abbrev placed : ℕ → Raw → Raw
@@ -45,4 +45,4 @@ entries_again at (r ∷ rs) s =
 pub reads_back : (bs : List ℕ) (x : Result (List Raw) BundleFault) → x ≡ bundle bs
     → (rs : List Raw) → Limited rs → bs ≡ bundle_written rs → map_ok (map pair_of) x ≡ Ok (map pair_of rs)
 reads_back bs x e rs l w =
-    ap (map_ok (map pair_of)) (e ∙ ap bundle w ∙ bundle_entries (length rs) (entries_written rs) l.0) ∙ entries_again 2 rs l.1
+    ap (map_ok (map pair_of)) (e ∙ ap bundle w ∙ bundle_behind (length rs) (entries_written rs) l.0) ∙ entries_again 2 rs l.1

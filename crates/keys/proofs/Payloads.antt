@@ -48,9 +48,18 @@ payload_laid namespace message before one two three start prefix size needed z h
     let t : needed ≡ length (payload namespace message) = omega (arith, ap length v) in
     record { size_is = t; short = omega arith; room = omega arith; written = cc }
 
-pub payload-refused : (namespace message out : List ℕ) (size needed : ℕ) → size ≡ length namespace → size < 2 ^ 32
+-- a payload that is longer than the buffer is refused
+pub payload-refused : (namespace message out : List ℕ) (prefix needed : ℕ) → length namespace < 2 ^ 32
+    → prefix ≡ length (varint (length namespace)) + length namespace → length out < prefix + length message → needed ≡ min (prefix + length message) (2 ^ 64 - 1)
+    → PayloadRefused namespace message out (SmallBuffer needed)
+payload-refused namespace message out prefix needed h p r n =
+    let l = length-payload namespace message in
+    let e : prefix + length message ≡ length (payload namespace message) = omega arith in
+    inr (ap SmallBuffer (n ∙ ap (λ z. min z (2 ^ 64 - 1)) e), h, omega arith)
+
+-- the same by the number that was computed
+pub payload_cut : (namespace message out : List ℕ) (size needed : ℕ) → size ≡ length namespace → size < 2 ^ 32
     → length out < needed → needed ≡ min (length (varint size) + length namespace + length message) (2 ^ 64 - 1)
     → PayloadRefused namespace message out (SmallBuffer needed)
-payload-refused namespace message out size needed z h r n =
-    let l = length-payload namespace message in
-    inr (grind arith, omega arith, grind arith)
+payload_cut namespace message out size needed z h r n =
+    payload-refused namespace message out (length (varint (length namespace)) + length namespace) needed (omega arith) refl (grind arith) (grind arith)

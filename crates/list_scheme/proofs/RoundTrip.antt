@@ -62,9 +62,13 @@ row width (suc k) at bs ss h =
           wide = (length-take-le width bs long, rest.wide);
         }
 
+-- as many signatures are read as were asked for
+pub signatures-length : (width k at : ℕ) (bs : List ℕ) (ss : List (List ℕ)) → signatures width k at bs ≡ Ok ss → length ss ≡ k
+signatures-length width k at bs ss h = (row width k at bs ss h).count
+
 -- what is read was written, and can be read
 module _ (width bound : ℕ) (bs : List ℕ) (octets : Octets bs) where
-  abbrev Canonical : Parts → Type 0
+  abbrev pub Canonical : Parts → Type 0
   Canonical p = Readable width bound p × (bs ≡ list_written p)
 
   module _ (b : Bitmap) (eb : read_bitmap bound bs ≡ Ok b) (some : length (members b) ≢ 0) where
@@ -106,10 +110,13 @@ module _ (width bound : ℕ) (bs : List ℕ) (octets : Octets bs) where
       let some = past (eqb (length (members b)) 0) _ _ p h in
       at_count b eb (eqb-false (length (members b)) 0 some.0) p _ refl some.1
 
+  pub canonical : (p : Parts) → read_list width bound bs ≡ Ok p → Canonical p
+  unfolding read_list
+  canonical p h = at_bitmap p (read_bitmap bound bs) refl h
+
   -- of an answer
   pub ok_canonical : (r : Result ListCertificate CertificateFault) → map_ok parts r ≡ read_list width bound bs → IfOk r (λ c. Readable width bound (parts c) × (bs ≡ list_written (parts c)))
-  unfolding read_list
-  ok_canonical (Ok c) h = at_bitmap (parts c) (read_bitmap bound bs) refl (sym h)
+  ok_canonical (Ok c) h = canonical (parts c) (sym h)
   ok_canonical (Err f) h = tt
 
 -- what is written is read again

@@ -1,8 +1,13 @@
 -- Signatures beside members. Assumes nothing.
-use Rattle.std.proofs.Common.{◌≡◌, ℕ, suc, ◌+◌, Bool, true, false, cond, ◌&&◌, List, [], ◌∷◌, ◌++◌, length, map, filter, get_or, drop, sym, refl, ap, ◌∙◌, add-zero, add-one, arith}
+use Rattle.std.proofs.Common.{◌≡◌, ℕ, suc, ◌+◌, ◌≤◌, Bool, true, false, cond, ◌&&◌, List, [], ◌∷◌, ◌++◌, length, map, filter, get_or, drop, sym, refl, ap, ◌∙◌, inl, inr, add-zero, add-one, arith}
 use Rattle.std.proofs.lemmas.List.{append-nil, append_assoc, length-map, drop-drop, get_or-drop}
 use Rattle.std.proofs.lemmas.Grind.{common_steps}
 use Rattle.std.specs.List.{list_all, zip, enumerate_from}
+use Rattle.refusals.specs.Limits.{max_message, max_payload}
+use Rattle.refusals.specs.declared.refusal.Refusal.{Refusal}
+use Rattle.keys.proofs.Payloads.{length-payload}
+use Rattle.keys.proofs.Varints.{length-varint-short}
+use Rattle.keys.specs.Payload.{PayloadRefused}
 use Rattle.keys.specs.Meaning.{KeyMeaning}
 use Rattle.keys.specs.Signed.{signed}
 use Rattle.keys.specs.declared.signature.Signature.{Signature}
@@ -65,3 +70,12 @@ module _ {K : Type 0} (m : KeyMeaning) (key : K → List ℕ) (payload : List �
 pub fits_parts : (keys : List (List ℕ)) (faults : Faults) (p : Parts) → list_fits keys faults p ≡ true → (p.bitmap.len ≡ length keys) × (length (named p) ≡ length p.signatures)
 unfolding list_fits
 fits_parts keys faults p h = grind (arith, common_steps)
+
+-- a payload within the limits has room
+pub payload_fits : (namespace message out : List ℕ) (e : Refusal) → length namespace ≤ 66 → length message ≤ max_message → length out ≡ max_payload → PayloadRefused namespace message out e → ⊥
+payload_fits namespace message out e h k l (inl q) = let a = q.1 in omega arith
+payload_fits namespace message out e h k l (inr q) =
+    let a = q.2 in
+    let b = length-payload namespace message in
+    let c = length-varint-short (length namespace) (omega arith) in
+    omega arith

@@ -5,7 +5,7 @@ use Rattle.std.proofs.lemmas.List.{take_more}
 use Rattle.std.proofs.lemmas.Bool.{lt-ltb}
 use Rattle.rolls.specs.Bitmap.{Bitmap, has, among, members}
 use Rattle.rolls.specs.Gathered.{fresh}
-use Rattle.rolls.proofs.BitLaws.{has_zero, with_bit, has-set, set_below, among_push}
+use Rattle.rolls.proofs.BitLaws.{has_zero, with_bit, has-set_64, set_below_64, among_push}
 use Rattle.rolls.proofs.MemberLaws.{members-none, count_set}
 
 -- the first i of the list are gathered in a bitmap
@@ -31,11 +31,11 @@ pub front_more : (n : ℕ) (xs : List ℕ) (i : ℕ) (b : Bitmap) → n ≤ 64 �
 front_more n xs i b few l below clear f =
     let x = get_or xs i 0 in
     let h : get_or xs i 0 < 64 = omega arith in
-    let set = λ (j : ℕ). has-set b.bits (get_or xs i 0) j h in
+    let set = λ (j : ℕ). has-set_64 b.bits (get_or xs i 0) j h in
     let a : among (get_or xs i 0) (take i xs) ≡ false = sym (f.bits (get_or xs i 0)) ∙ clear in
     record {
       len = f.len;
-      fits = set_below n b.bits (get_or xs i 0) few f.fits below;
+      fits = set_below_64 n b.bits (get_or xs i 0) few f.fits below;
       each = below_more _ i f.each (rw (lt-ltb (get_or xs i 0) n below, a) refl);
       bits = λ j. set j ∙ ap (λ z. z || eqb (get_or xs i 0) j) (f.bits j) ∙ sym (ap (among j) (take_more xs i 0 l) ∙ among_push j (take i xs) (get_or xs i 0));
       count = count_set b.bits (with_bit b.bits (get_or xs i 0)) (get_or xs i 0) clear set b.len (omega (arith, f.len)) ∙ ap (λ k. k + 1) f.count;

@@ -7,11 +7,15 @@ use Rattle.rolls.specs.Bitmap.{has, among, members_below}
 use Rattle.rolls.proofs.BitLaws.{among_push}
 use Rattle.rolls.proofs.MemberLaws.{count_suc, cond_le}
 
-members_in : (n bits : ℕ) → has bits n ≡ true → members_below (n + 1) bits ≡ members_below n bits ++ n ∷ []
+-- one index more: a member, or not
+pub members_in : (n bits : ℕ) → has bits n ≡ true → members_below (n + 1) bits ≡ members_below n bits ++ n ∷ []
 members_in n bits h = rw (add-one n, h) refl
 
+pub members_out : (n bits : ℕ) → has bits n ≡ false → members_below (n + 1) bits ≡ members_below n bits
+members_out n bits h = rw (add-one n, h) (append-nil (members_below n bits))
+
 -- the members below m are the front of those below n
-members_split : (m n bits : ℕ) → m ≤ n → (rest : List ℕ) × (members_below n bits ≡ members_below m bits ++ rest)
+pub members_split : (m n bits : ℕ) → m ≤ n → (rest : List ℕ) × (members_below n bits ≡ members_below m bits ++ rest)
 members_split m zero bits l = let e : zero ≡ m = omega arith in ([], ap (λ k. members_below k bits) e ∙ sym (append-nil (members_below m bits)))
 members_split m (suc n) bits l =
     ⊎_elim

@@ -6,7 +6,7 @@ use Rattle.std.proofs.lemmas.Nat.Bits.{bit_at_cat_low}
 use Rattle.std.proofs.lemmas.List.{take-take, take_at, get_or-take, get_or-append-add, length-take}
 use Rattle.refusals.specs.declared.fault.BitmapFault.{BitmapFault}
 use Rattle.refusals.specs.declared.refusal.Refusal.{Refusal}
-use Rattle.keys.specs.Bytes.{big_endian, little_endian}
+use Rattle.keys.specs.Bytes.{big_endian, little_endian, overlaid}
 use Rattle.rolls.specs.Bitmap.{Bitmap, has, bitmap_size, bitmap_written}
 use Rattle.rolls.specs.Signers.{bitmap, written_size, LaidOut, Written}
 use Rattle.rolls.specs.declared.signers.Signers.{Signers}
@@ -66,8 +66,12 @@ ok_laid_out bytes (Ok s) w = laid_out (bitmap s) bytes s.within s.fits w
 ok_laid_out bytes (Err f) w = tt
 
 -- a buffer after a set was written at its front
-pub put_laid_out : (s : Signers) (out after : List ℕ) (r : Result ℕ Refusal) → Written (bitmap s) out after r → OnOk r (LaidOut (bitmap s) after)
-put_laid_out s out after (Err e) w = tt
-put_laid_out s out after (Ok n) w =
+pub put_laid_out : (s : Signers) (out after : List ℕ) → after ≡ overlaid out 0 (bitmap_written (bitmap s)) → LaidOut (bitmap s) after
+put_laid_out s out after e =
     laid_out (bitmap s) after s.within s.fits
-    (ap (take (written_size (bitmap s))) w.2 ∙ take_at (bitmap_written (bitmap s)) _ (written_size (bitmap s)) (length-written (bitmap s)))
+    (ap (take (written_size (bitmap s))) e ∙ take_at (bitmap_written (bitmap s)) _ (written_size (bitmap s)) (length-written (bitmap s)))
+
+-- the same of an answer
+pub ok_put : (s : Signers) (out after : List ℕ) (r : Result ℕ Refusal) → Written (bitmap s) out after r → OnOk r (LaidOut (bitmap s) after)
+ok_put s out after (Err e) w = tt
+ok_put s out after (Ok n) w = put_laid_out s out after w.2

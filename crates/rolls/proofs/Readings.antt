@@ -94,12 +94,12 @@ pub bits-short : (n : ℕ) (bs : List ℕ) → length bs < bitmap_size n → Err
 unfolding read_bits
 bits-short n bs h = rw (lt-ltb (length bs) (bitmap_size n) h) refl
 
-bits_over : (n : ℕ) (bs : List ℕ) (x : ℕ) → bitmap_size n ≤ length bs → x ≡ little_number (take (bitmap_size n) bs) → 2 ^ n ≤ x
+pub bits_over : (n : ℕ) (bs : List ℕ) (x : ℕ) → bitmap_size n ≤ length bs → x ≡ little_number (take (bitmap_size n) bs) → 2 ^ n ≤ x
     → Err (record { kind = Invalid; place = 8 }) ≡ read_bits n bs
 unfolding read_bits
 bits_over n bs x h e g = rw (le-ltb (length bs) (bitmap_size n) h, sym e, le-ltb x (2 ^ n) g) refl
 
-bits-fine : (n : ℕ) (bs : List ℕ) (x : ℕ) → bitmap_size n ≤ length bs → x ≡ little_number (take (bitmap_size n) bs) → x < 2 ^ n
+pub bits-fine : (n : ℕ) (bs : List ℕ) (x : ℕ) → bitmap_size n ≤ length bs → x ≡ little_number (take (bitmap_size n) bs) → x < 2 ^ n
     → Ok (record { len = n; bits = x }) ≡ read_bits n bs
 unfolding read_bits
 bits-fine n bs x h e l = rw (le-ltb (length bs) (bitmap_size n) h, sym e, lt-ltb x (2 ^ n) l) refl
@@ -230,11 +230,11 @@ pub ok_back : (limit : ℕ) (bs : List ℕ) (r : Result Signers BitmapFault) →
     → (b : Bitmap) (rest : List ℕ) → b.len ≤ min limit 64 → b.bits < 2 ^ b.len → bs ≡ bitmap_written b ++ rest → map_ok bitmap r ≡ Ok b
 ok_back limit bs r e b rest few fits w = e ∙ ap (read_bitmap limit) w ∙ reads_back limit b rest few fits
 
-decode_fine : (limit : ℕ) (bs : List ℕ) (b : Bitmap) → read_bitmap limit bs ≡ Ok b → length bs ≤ written_size b → decode_bitmap limit bs ≡ Ok b
+pub decode_fine : (limit : ℕ) (bs : List ℕ) (b : Bitmap) → read_bitmap limit bs ≡ Ok b → length bs ≤ written_size b → decode_bitmap limit bs ≡ Ok b
 decode_fine limit bs b h l = ap (whole bs) h ∙ rw (le-ltb (written_size b) (length bs) l) refl
 
 -- what is written is decoded
-decodes_back : (limit : ℕ) (b : Bitmap) → b.len ≤ min limit 64 → b.bits < 2 ^ b.len → decode_bitmap limit (bitmap_written b) ≡ Ok b
+pub decodes_back : (limit : ℕ) (b : Bitmap) → b.len ≤ min limit 64 → b.bits < 2 ^ b.len → decode_bitmap limit (bitmap_written b) ≡ Ok b
 decodes_back limit b few fits =
     decode_fine limit (bitmap_written b) b (ap (read_bitmap limit) (sym (append-nil (bitmap_written b))) ∙ reads_back limit b [] few fits) (omega (arith, length-written b))
 

@@ -11,6 +11,11 @@ use Rattle.keys.specs.Bytes.{big_endian, little_endian, overlaid}
 use Rattle.rolls.specs.Bitmap.{Bitmap, bitmap_size, bitmap_written}
 use Rattle.rolls.specs.Signers.{written_size, Written}
 
+-- a number has as many bytes as it is written in
+pub length-big_endian : (n x : ℕ) → length (big_endian n x) ≡ n
+length-big_endian zero x = refl
+length-big_endian (suc n) x = ap suc (length-big_endian n x)
+
 pub length-little_endian : (n x : ℕ) → length (little_endian n x) ≡ n
 length-little_endian zero x = refl
 length-little_endian (suc n) x = ap suc (length-little_endian n (x / 256))
@@ -45,7 +50,7 @@ pub sixteen : (x y : ℕ) (a b : List ℕ) → a ≡ to_be_bytes w64 x → b ≡
     → put_mid 8 8 (a ++ replicate {A = ℕ} 8 0) b ≡ big_endian 8 x ++ little_endian 8 y
 sixteen x y a b e f = rw (e ∙ big-is x, f ∙ little-is y) refl
 
-written_is : (b : Bitmap) (bytes : List ℕ) (size : ℕ) → b.len ≤ 64 → size ≡ written_size b → bytes ≡ big_endian 8 b.len ++ little_endian 8 b.bits
+pub written_is : (b : Bitmap) (bytes : List ℕ) (size : ℕ) → b.len ≤ 64 → size ≡ written_size b → bytes ≡ big_endian 8 b.len ++ little_endian 8 b.bits
     → take size bytes ≡ bitmap_written b
 unfolding bitmap_written
 written_is b bytes size few e f =

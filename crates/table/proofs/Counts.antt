@@ -1,4 +1,4 @@
-use Rattle.std.proofs.Common.{◌≡◌, ℕ, ◌<◌, ◌≤◌, Bool, true, cond, ◌&&◌, leb, List, [], ◌∷◌, Some, None, Option, sym, refl, ap, ◌∙◌, arith}
+use Rattle.std.proofs.Common.{◌≡◌, ℕ, ◌<◌, ◌≤◌, Bool, true, cond, ◌&&◌, leb, List, [], ◌∷◌, get_or, Some, None, Option, sym, refl, ap, ◌∙◌, arith}
 use Rattle.std.proofs.lemmas.Bool.Decides.{nat_tests}
 use Rattle.std.proofs.lemmas.Str.Parse.{IsNumeralModel, numerals_by_value, tells_all_ascii_digits}
 use Rattle.std.specs.Str.{all_ascii_digits}
@@ -21,3 +21,8 @@ counted_is [] (Some n) h = absurd (omega (arith, h.0.0))
 counted_is (c ∷ cs) None h = sym (not_chosen (all_ascii_digits (c ∷ cs)) (digits_value 10 (c ∷ cs)) (λ e. h (omega arith, numerals.to (c ∷ cs) e)))
 counted_is (c ∷ cs) (Some n) h =
     ap Some h.1 ∙ sym (chosen (all_ascii_digits (c ∷ cs)) (digits_value 10 (c ∷ cs)) (numerals.from (c ∷ cs) h.0.1) (omega (arith, h.1, h.2)))
+
+-- a text that begins with a plus sign is no count
+pub no_plus : (cs : List ℕ) → get_or cs 0 0 ≡ 43 → count_of cs ≡ None
+no_plus [] e = refl
+no_plus (c ∷ cs) e = ap (λ d. count_of (d ∷ cs)) e

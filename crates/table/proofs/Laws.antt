@@ -14,10 +14,10 @@ beside-beside (Some xs) (Some ys) None = refl
 beside-beside (Some xs) (Some ys) (Some zs) = ap Some (sym (append_assoc xs ys zs))
 
 -- more bytes do not mend what is unfit
-unfit_beside : (a o : Option (List ℕ)) (n : ℕ) → Unfit a n → Unfit (beside a o) n
-unfit_beside None o n h = tt
-unfit_beside (Some xs) None n h = tt
-unfit_beside (Some xs) (Some ys) n h = simp length-append (omega arith)
+unfit_more : (a o : Option (List ℕ)) (n : ℕ) → Unfit a n → Unfit (beside a o) n
+unfit_more None o n h = tt
+unfit_more (Some xs) None n h = tt
+unfit_more (Some xs) (Some ys) n h = simp length-append (omega arith)
 
 before-beside : (b : ℕ) (o : Option (List ℕ)) → before (Some b) o ≡ beside (Some (b ∷ [])) o
 before-beside b None = refl
@@ -42,7 +42,7 @@ pub no_room : (left chunk rest bytes : List ℕ) (b room : ℕ) (all : Option (L
     → length bytes ≡ room → beside (Some bytes) (hex_bytes left) ≡ all → Unfit all room
 no_room left chunk rest bytes b room all cut e full h =
     let more = one_more left chunk rest bytes (bytes ++ b ∷ []) b all cut e refl h in
-    rw (← more) (unfit_beside (Some (bytes ++ b ∷ [])) (hex_bytes rest) room (simp length-append (omega arith)))
+    rw (← more) (unfit_more (Some (bytes ++ b ∷ [])) (hex_bytes rest) room (simp length-append (omega arith)))
 
 -- one more word
 pub more_bytes : (left words : List (List ℕ)) (word bytes more : List ℕ) (all : Option (List ℕ)) → left ≡ word ∷ words
@@ -55,4 +55,4 @@ more_bytes left words word bytes more all next put h =
 pub too_many : (left words : List (List ℕ)) (word bytes : List ℕ) (room : ℕ) (all : Option (List ℕ)) → left ≡ word ∷ words
     → Unfit (beside (Some bytes) (word_bytes word)) room → beside (Some bytes) (all_bytes left) ≡ all → Unfit all room
 too_many left words word bytes room all next unfit h =
-    rw (← h, next, beside-beside (Some bytes) (word_bytes word) (all_bytes words)) (unfit_beside (beside (Some bytes) (word_bytes word)) (all_bytes words) room unfit)
+    rw (← h, next, beside-beside (Some bytes) (word_bytes word) (all_bytes words)) (unfit_more (beside (Some bytes) (word_bytes word)) (all_bytes words) room unfit)

@@ -12,6 +12,11 @@ use Rattle.table.proofs.Counts.{counted_is}
 one_part : (mark : ℕ) (cs : List ℕ) → length cs ≤ position_or_len (λ c. eqb c mark) cs → split_at mark cs ≡ cs ∷ []
 one_part mark cs e = slice_split_none (λ c. eqb c mark) cs (λ k d l. fails_before_first (λ c. eqb c mark) cs k d (omega arith))
 
+-- an empty word has no bytes
+pub empty_word : (word : List ℕ) → length word ≡ 0 → word_bytes word ≡ None
+empty_word [] e = refl
+empty_word (c ∷ cs) e = absurd (omega arith)
+
 some_digits : (word : List ℕ) → 0 < length word → some_hex word ≡ hex_bytes word
 some_digits [] h = absurd (omega arith)
 some_digits (c ∷ cs) h = refl
@@ -20,7 +25,7 @@ several : (digits count : List ℕ) (rest : List (List ℕ)) → 0 < length rest
 several digits count [] h = absurd (omega arith)
 several digits count (more ∷ rest) h = refl
 
-repeated-none : (byte : Option ℕ) → repeated byte None ≡ None
+pub repeated-none : (byte : Option ℕ) → repeated byte None ≡ None
 repeated-none None = refl
 repeated-none (Some b) = refl
 
@@ -32,7 +37,7 @@ starred_count cs l = sym (counted_is cs None (λ numeral. absurd (
     omega (arith, star, digit))))
 
 -- the parts behind a first star are one count, or the word is bad
-count_behind : (digits cs : List ℕ) → of_parts (digits ∷ split_at 42 cs) ≡ repeated (hex_byte digits) (count_of cs)
+pub count_behind : (digits cs : List ℕ) → of_parts (digits ∷ split_at 42 cs) ≡ repeated (hex_byte digits) (count_of cs)
 count_behind digits cs =
     ⊎_elim
     (λ l.

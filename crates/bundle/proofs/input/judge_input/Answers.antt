@@ -8,4 +8,4 @@ pub returns : goal.returns
 returns g c =
     let a = c.in_ok-admit.ensures in
     let b = c.in_ok-bundle.bundle in
-    concluded _ _ (held_by b) _ _ _ a.0 (ap bundle (sym a.1) ∙ sym c.in_ok-bundle.ensures.entries) b.limited (rw (c.new.ensures.0, c.new.ensures.1) at c.judge.ensures)
+    concluded _ _ (held_by b) _ _ _ a.0 (ap bundle (sym a.1) ∙ sym c.in_ok-bundle.ensures.entries) (rw (c.new.ensures.0, c.new.ensures.1) at c.judge.ensures)

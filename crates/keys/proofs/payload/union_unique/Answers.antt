@@ -1,6 +1,6 @@
 use Rattle.std.proofs.Common.{◌≡◌, ◌+◌, length, refl, arith, rules}
 use Rattle.keys.proofs.Varints.{varint-narrow}
-use Rattle.keys.proofs.Payloads.{payload_laid, payload-refused, payload_same}
+use Rattle.keys.proofs.Payloads.{payload_laid, payload_cut, payload_same}
 use Rattle.keys.proofs.payload.union_unique.Goals as goal
 
 pub overflow_add-prefix : goal.overflow_add-prefix
@@ -9,7 +9,7 @@ overflow_add-prefix c = omega (arith, varint-narrow c.in_ok-size.size)
 pub returns-then-out-needed-clause-written : goal.returns-then-out-needed-clause-written
 returns-then-out-needed-clause-written c =
     let s : c.in_ok-size.size ≡ length c.args.namespace.now = search rules in
-    (payload-refused c.args.namespace.now c.args.message.now c.args.out.now c.in_ok-size.size c.saturating_add-needed.result s (omega arith) (omega arith) (omega arith), refl)
+    (payload_cut c.args.namespace.now c.args.message.now c.args.out.now c.in_ok-size.size c.saturating_add-needed.result s (omega arith) (omega arith) (omega arith), refl)
 
 pub returns-clause-written : goal.returns-clause-written
 returns-clause-written c =

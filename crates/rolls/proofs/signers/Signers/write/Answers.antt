@@ -1,6 +1,6 @@
 use Rattle.rolls.specs.Signers.{bitmap}
 use Rattle.rolls.proofs.Writings.{put_written}
-use Rattle.rolls.proofs.Placing.{put_laid_out}
+use Rattle.rolls.proofs.Placing.{ok_put}
 use Rattle.rolls.proofs.signers.Signers.write.Goals as goal
 
 pub returns-clause-written : goal.returns-clause-written
@@ -9,4 +9,4 @@ returns-clause-written c =
     c.args.self.now.within c.size-size.ensures c.bytes.ensures c.put.ensures c.ok_or.ensures.value
 
 pub returns-clause-laid_out : goal.returns-clause-laid_out
-returns-clause-laid_out c = put_laid_out c.args.self.now c.args.out.now c.put.new.out c.ok_or.result (returns-clause-written c)
+returns-clause-laid_out c = ok_put c.args.self.now c.args.out.now c.put.new.out c.ok_or.result (returns-clause-written c)
