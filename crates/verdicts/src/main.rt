@@ -14,9 +14,9 @@ const ROOM: usize = MAX_INPUT + 1;
 
 // Reads to the end, and no more than there is room for.
 // Each read is lent all the room that is left, and nothing is allocated: no answer depends on memory.
-fn read_input<'a, R: Read>(reader: &mut R, room: &'a mut [u8]) -> io::Result<&'a [u8]>
-    ensures few { IfOk result (λ input. length input.now ≤ length room.old) }
-    ensures bytes { IfOk result (λ input. IfSome (R.remaining reader.old) (λ bytes. input.now ≡ take (length room.old) bytes)) }
+fn read_input<'a, R: Read>(reader: &mut R, room: &'a mut [u8; ROOM]) -> io::Result<&'a [u8]>
+    ensures few { IfOk result (λ input. length input.now ≤ ROOM) }
+    ensures bytes { IfOk result (λ input. IfSome (R.remaining reader.old) (λ bytes. input.now ≡ take ROOM bytes)) }
 {
     let mut len = 0;
     for _ in 0..room.len() {
