@@ -4,7 +4,7 @@ ghost use Rattle.buffers.specs.Items.{items};
 
 use crate::table::Bounded;
 
-// Inlined always: a list of large items is then made and filled where it lies, and LLVM copies no item by itself.
+// All but `extend_repeated` are always inlined: LLVM else hands a list of large items on one item after the other.
 impl<T: Copy, const N: usize> Bounded<T, N> {
     /// An empty list; a blank lies in each free place.
     #[inline(always)]

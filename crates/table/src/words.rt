@@ -40,7 +40,7 @@ fn repeat_count(text: &str) -> Option<usize>
     text.parse().ok().filter(|count| *count <= MAX_BYTES)
 }
 
-// The calls named put push what their argument writes behind what stands; `None` for a bad word or too many bytes.
+// The calls named put push what their argument writes behind what stands. `None` for a bad word or too many bytes; the list may have changed then.
 fn put_hex<const N: usize>(digits: &[u8], line: &mut Bounded<u8, N>) -> Option<()>
     ensures { PutBehind N (hex_bytes digits.now) (items line.old) (items line.new) result }
 {
