@@ -69,7 +69,7 @@ fn put_word<const N: usize>(word: &str, line: &mut Bounded<u8, N>) -> Option<()>
 }
 
 /// Puts the bytes of words that single spaces separate; `None` if a word is bad, or if the bytes are too many.
-pub fn put_words<const N: usize>(text: &str, line: &mut Bounded<u8, N>) -> Option<()>
+fn put_words<const N: usize>(text: &str, line: &mut Bounded<u8, N>) -> Option<()>
     ensures { PutBehind N (text_bytes text.now) (items line.old) (items line.new) result }
 {
     for word in text.split(' ') {
